@@ -1,5 +1,5 @@
 -- The steps of what was read as an export.
-use Rattle.std.proofs.Common.{◌≡◌, ℕ, List, [], ◌∷◌, Option, Some, None, Ok}
+use Rattle.std.proofs.Common.{◌≡◌, List, [], ◌∷◌, Option, Some, None, Ok}
 use Rattle.std.specs.Prelude.{IfSome}
 use Rattle.std.specs.List.{AllByRecursion}
 use Rattle.byte_formats.specs.Types.{HashFunction, Text}
@@ -10,7 +10,7 @@ use Rattle.cosigner_core.specs.Progress.{first_progress, progress_by}
 use Rattle.cosigner_core.specs.Records.{FitsStep}
 use Rattle.cosigner_core.specs.declared.lists.Export.{Export}
 use Rattle.cosigner_core.specs.declared.step.Step.{Step}
-use Rattle.cosigner_core.specs.declared.step.Step.TheVariants.{Advance, Sign}
+use Rattle.cosigner_core.specs.declared.step.Step.TheVariants.{Advance, Child, Sign}
 use Rattle.cosigner_core.specs.declared.terms.KeyTerms.{KeyTerms}
 use Rattle.cosigner_core.proofs.ExportForm.{export_takes}
 use Rattle.cosigner_steps.specs.Laws.{HasHashes}
@@ -30,6 +30,7 @@ export_steps h bytes (Some e) are read = are_steps h e (export_takes h bytes e a
 hashes_of : (step : Step) → FitsStep step → HasHashes step
 hashes_of (Advance size root proof) fits = fits.all_hashes.0
 hashes_of (Sign index start end hash proof) fits = fits.all_hashes.0
+hashes_of (Child child low) fits = tt
 
 all_hashes : (steps : List Step) → AllByRecursion FitsStep steps → AllByRecursion HasHashes steps
 all_hashes [] fits = tt

@@ -1,6 +1,6 @@
 -- What is held, from the last step back, at an Advance and at a Sign.
-use Rattle.std.proofs.Common.{◌≡◌, ℕ, ◌+◌, ◌-◌, ◌<◌, ◌≤◌, List, [], ◌∷◌, length, get_or, take}
-use Rattle.std.proofs.Common.{Some, sym, ap, subst, ◌∙◌, arith, inl, inr}
+use Rattle.std.proofs.Common.{◌≡◌, ◌⊎◌, ℕ, ◌+◌, ◌-◌, ◌<◌, ◌≤◌, List, [], ◌∷◌, length, get_or, take}
+use Rattle.std.proofs.Common.{Some, refl, sym, ap, subst, ◌∙◌, arith, inl, inr}
 use Rattle.std.specs.List.{Contains}
 use Rattle.std.proofs.Math.Seq.{take-length}
 use Rattle.std.proofs.lemmas.Option.{same_Some}
@@ -10,20 +10,22 @@ use Rattle.tree_proofs.specs.Consistency.{Checks}
 use Rattle.tree_proofs.specs.declared.checkpoint.Checkpoint.{Checkpoint}
 use Rattle.tree_proofs.proofs.Fulls.{some_in}
 use Rattle.tree_proofs.proofs.Splits.{tree-none}
+use Rattle.lms_core.specs.declared.heights.LmsType.{LmsType}
 use Rattle.cosigner_core.specs.Progress.{first_progress, is_allowed, progress_by, with_step}
 use Rattle.cosigner_core.specs.declared.progress.Progress.{Progress}
 use Rattle.cosigner_core.specs.declared.step.Step.{Step}
-use Rattle.cosigner_core.specs.declared.step.Step.TheVariants.{Advance, Sign}
+use Rattle.cosigner_core.specs.declared.step.Step.TheVariants.{Advance, Child, Sign}
 use Rattle.cosigner_core.specs.declared.terms.KeyTerms.{KeyTerms}
-use Rattle.cosigner_steps.specs.Steps.{AreSteps, HasPrefix, IsWithin, held_by_first, held_by}
-use Rattle.cosigner_steps.specs.Steps.{held_sizes, with_steps}
-use Rattle.cosigner_steps.proofs.Steps.{IsAdvanceFrom, advance_checks, allowed_at, held_advance}
-use Rattle.cosigner_steps.proofs.Steps.{held_none, held_sign, none_held, rises_to, sign_checks}
+use Rattle.cosigner_steps.specs.Steps.{AreSteps, HasPrefix, IsSign, IsWithin, held_by_first}
+use Rattle.cosigner_steps.specs.Steps.{held_by, held_sizes, with_steps}
+use Rattle.cosigner_steps.proofs.Steps.{IsAdvanceFrom, KeepsHeld, advance_checks, allowed_at}
+use Rattle.cosigner_steps.proofs.Steps.{held_advance, held_none, held_same, none_held, rises_to}
+use Rattle.cosigner_steps.proofs.Steps.{sign_checks}
 use Rattle.cosigner_steps.proofs.Steps.{size_held, sizes_take, step_first}
 
 -- ---- what is held at last
 
-done_by : (h : HashFunction) (terms : KeyTerms) (p q : Progress) (steps : List Step)
+pub done_by : (h : HashFunction) (terms : KeyTerms) (p q : Progress) (steps : List Step)
     → progress_by h terms p steps ≡ Some q → with_steps p steps ≡ q
 unfolding progress_by with_steps
 done_by h terms p q [] e = same_Some p q e
@@ -45,16 +47,35 @@ found_at steps k s t at is = subst (λ (x : Step). x ≡ get_or steps k x) is at
 
 -- ---- what is held, from the last step back
 
-pub back_sign : (h : HashFunction) (steps : List Step) (place index start end : ℕ) (hash : Hash)
-    (proof : List Hash) → 0 < place → place ≤ length steps
-    → Sign index start end hash proof
-    ≡ get_or steps (place - 1) (Sign index start end hash proof)
+pub not_advance : (s : Step)
+    → ((size : ℕ) (root : Hash) (proof : List Hash) → s ≡ Advance size root proof → ⊥)
+    → KeepsHeld s
+not_advance (Advance size root proof) none = absurd (none size root proof refl)
+not_advance (Sign index start end hash proof) none = λ p. refl
+not_advance (Child child low) none = λ p. refl
+
+-- The step is a Sign or a Child, as a match leaves it.
+abbrev pub IsSignOrChild : Step → Type 0
+IsSignOrChild s =
+    ((index : ℕ) × (start : ℕ) × (end : ℕ) × (hash : Hash) × (proof : List Hash)
+    × (s ≡ Sign index start end hash proof))
+    ⊎ ((child : ℕ) × (low : LmsType) × (s ≡ Child child low))
+
+pub either_keeps : (s : Step) → IsSignOrChild s → KeepsHeld s
+either_keeps s either =
+    elim either [
+      | inl x ↦ subst KeepsHeld (sym x.5) (λ p. refl)
+      | inr x ↦ subst KeepsHeld (sym x.2) (λ p. refl)
+    ]
+
+pub back_same : (h : HashFunction) (steps : List Step) (place : ℕ) (s : Step) → KeepsHeld s
+    → 0 < place → place ≤ length steps → s ≡ get_or steps (place - 1) s
     → held_by_first h steps place ≡ held_by h steps
     → held_by_first h steps (place - 1) ≡ held_by h steps
-back_sign h steps place index start end hash proof some within is same =
+back_same h steps place s keeps some within is same =
     let below : place - 1 < length steps = omega arith in
     let here : place - 1 + 1 ≡ place = omega arith in
-    sym (held_sign h steps (place - 1) index start end hash proof below is)
+    sym (held_same h steps (place - 1) s keeps below is)
     ∙ (ap (λ (k : ℕ). held_by_first h steps k) here ∙ same)
 
 pub back_advance : (h : HashFunction) (steps : List Step) (place size : ℕ) (root : Hash)
@@ -75,6 +96,16 @@ back_none h steps place none same =
     sym (held_none h) ∙ (ap (λ (k : ℕ). held_by_first h steps k) nought ∙ same)
 
 -- ---- at a step
+
+-- The step is no Sign, as a match leaves it.
+abbrev pub NeverSigns : Step → Type 0
+NeverSigns s = (index start end : ℕ) (hash : Hash) (proof : List Hash)
+    → s ≡ Sign index start end hash proof → ⊥
+
+pub never_sign : (s : Step) → NeverSigns s → IsSign s → ⊥
+never_sign (Advance size root proof) none is = is
+never_sign (Sign index start end hash proof) none is = none index start end hash proof refl
+never_sign (Child child low) none is = is
 
 pub empty_prefix : (h : HashFunction) (entries : List Text)
     → HasPrefix h entries (empty_checkpoint h)
@@ -99,6 +130,7 @@ pub sign_long : (h : HashFunction) (entries : List Text) (steps : List Step) (k 
     → HasPrefix h entries (held_by_first h steps (length steps)) → IsWithin (length entries) step
 unfolding held_by
 sign_long h entries steps k (Advance size root proof) are below is prefix = tt
+sign_long h entries steps k (Child child low) are below is prefix = tt
 sign_long h entries steps k (Sign index start end hash proof) are below is prefix =
     let checks = sign_checked h steps k index start end hash proof are below is in
     let rise = rises_to h are.terms (first_progress h) are.done steps k are.each in

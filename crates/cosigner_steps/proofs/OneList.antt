@@ -1,7 +1,7 @@
 -- One list and a cosigner: if the list begins with what is held at last, each Sign is of the list,
 -- or there are two strings with one hash.
 use Rattle.std.proofs.Common.{◌≡◌, ◌⊎◌, ⊎_elim, inl, inr, ℕ, zero, suc, ◌+◌, ◌-◌, ◌<◌, ◌≤◌, true}
-use Rattle.std.proofs.Common.{List, [], ◌∷◌, length, get_or, take, sym, ap, subst, ◌∙◌, arith}
+use Rattle.std.proofs.Common.{List, [], ◌∷◌, length, get_or, take, refl, sym, ap, subst, ◌∙◌, arith}
 use Rattle.std.specs.List.{AllByRecursion, Contains}
 use Rattle.std.proofs.Math.Seq.{take-length}
 use Rattle.std.proofs.lemmas.List.{get_or_default, length-take-le}
@@ -14,7 +14,7 @@ use Rattle.tree_proofs.proofs.Parts.{part_of-take, part_of-zero}
 use Rattle.tree_proofs.specs.declared.checkpoint.Checkpoint.{Checkpoint}
 use Rattle.cosigner_core.specs.Progress.{first_progress}
 use Rattle.cosigner_core.specs.declared.step.Step.{Step}
-use Rattle.cosigner_core.specs.declared.step.Step.TheVariants.{Advance, Sign}
+use Rattle.cosigner_core.specs.declared.step.Step.TheVariants.{Advance, Child, Sign}
 use Rattle.collide.specs.Extraction.{HasCollision}
 use Rattle.collide.specs.Inputs.{inputs_of, open_inputs_of}
 use Rattle.collide.proofs.Compared.{collision_widened}
@@ -22,7 +22,8 @@ use Rattle.collide.proofs.Extracting.{IsSized, ProofsExtract_always}
 use Rattle.cosigner_steps.specs.Laws.{HasHashes, OneListAfter}
 use Rattle.cosigner_steps.specs.Steps.{AreSteps, HasPrefix, IsOfList, held_by_first, held_by}
 use Rattle.cosigner_steps.specs.Steps.{held_sizes, prefix_inputs, proof_inputs, step_inputs}
-use Rattle.cosigner_steps.proofs.Steps.{held_advance, held_sign, inputs_at, prefix_at, size_at}
+use Rattle.cosigner_steps.proofs.Steps.{held_advance, held_same, held_sign, inputs_at, prefix_at}
+use Rattle.cosigner_steps.proofs.Steps.{size_at}
 use Rattle.cosigner_steps.proofs.Holding.{advance_at, nothing_held, sign_checked, size_there}
 
 -- this holds, or the list and the proofs of these steps show two strings with one hash
@@ -93,6 +94,9 @@ step_back : (h : HashFunction) → IsSized h → (entries : List Text) (steps : 
 step_back h sized entries steps k (Sign index start end hash proof) are hashes below is prefix =
     inl (subst (HasPrefix h entries)
     (held_sign h steps k index start end hash proof below is) prefix)
+step_back h sized entries steps k (Child child low) are hashes below is prefix =
+    inl (subst (HasPrefix h entries)
+    (held_same h steps k (Child child low) (λ p. refl) below is) prefix)
 step_back h sized entries steps k (Advance size root proof) are hashes below is prefix =
     let held = held_by_first h steps k in
     let own : HasPrefix h entries (record { size = size; root = root }) =
@@ -149,6 +153,7 @@ sign_shown : (h : HashFunction) → IsSized h → (entries : List Text) (steps :
     (s : Step) → AreSteps h steps → HasHashes s → k < length steps → s ≡ get_or steps k s
     → HasPrefix h entries (held_by_first h steps k) → Shown h entries steps (IsOfList h entries s)
 sign_shown h sized entries steps k (Advance size root proof) are hashes below is prefix = inl tt
+sign_shown h sized entries steps k (Child child low) are hashes below is prefix = inl tt
 sign_shown h sized entries steps k (Sign index start end hash proof) are hashes below is prefix =
     let held = held_by_first h steps k in
     let checks = sign_checked h steps k index start end hash proof are below is in

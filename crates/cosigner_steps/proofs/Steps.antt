@@ -2,24 +2,22 @@
 use Rattle.std.proofs.Common.{◌≡◌, ◌⊎◌, ℕ, zero, suc, ◌+◌, ◌<◌, ◌≤◌, Bool, true, false, List, []}
 use Rattle.std.proofs.Common.{◌∷◌, ◌++◌, length, get_or, take, Some, None, refl, sym, ap}
 use Rattle.std.proofs.Common.{subst, ◌∙◌}
-use Rattle.std.proofs.Common.{arith, eqb-true, ltb-true, inl, inr}
-use Rattle.std.specs.Prelude.{Option, option_and_then, if◌then◌else◌, nat_lt, ◌==◌, is_ok}
-use Rattle.std.specs.Prelude.{Result, Ok, Err}
+use Rattle.std.proofs.Common.{arith, ltb-true, inl, inr}
+use Rattle.std.specs.Prelude.{Option, option_and_then, if◌then◌else◌, nat_lt, ◌==◌}
 use Rattle.std.specs.List.{Contains, flat_map}
 use Rattle.std.proofs.Math.Seq.{take-suc}
 use Rattle.std.proofs.lemmas.Bool.{and_parts}
 use Rattle.std.proofs.lemmas.List.Elements.{Contains-append_left, Contains-append_right}
 use Rattle.byte_formats.specs.Types.{Hash, HashFunction, Text}
-use Rattle.byte_formats.proofs.Steps.{chosen}
-use Rattle.tree_proofs.specs.Consistency.{Checks, consistency}
+use Rattle.tree_proofs.specs.Consistency.{Checks}
 use Rattle.tree_proofs.proofs.Checkpoints.{CheckpointsAreShown_always}
-use Rattle.tree_proofs.specs.Checkpoints.{empty_checkpoint, is_prefix_of}
+use Rattle.tree_proofs.specs.Checkpoints.{empty_checkpoint}
 use Rattle.tree_proofs.specs.declared.checkpoint.Checkpoint.{Checkpoint}
 use Rattle.cosigner_core.specs.Progress.{first_progress, is_allowed, progress_by}
 use Rattle.cosigner_core.specs.Progress.{keys_by, with_step}
 use Rattle.cosigner_core.specs.declared.progress.Progress.{Progress}
 use Rattle.cosigner_core.specs.declared.step.Step.{Step}
-use Rattle.cosigner_core.specs.declared.step.Step.TheVariants.{Advance, Sign}
+use Rattle.cosigner_core.specs.declared.step.Step.TheVariants.{Advance, Child, Sign}
 use Rattle.cosigner_core.specs.declared.terms.KeyTerms.{KeyTerms}
 use Rattle.collide.specs.Inputs.{inputs_of}
 use Rattle.cosigner_steps.specs.Steps.{held_by_first, held_by, inputs_from, held_sizes}
@@ -49,7 +47,7 @@ taken steps k s below is =
     ap (λ (n : ℕ). take n steps) next
     ∙ (take-suc steps k s below ∙ ap (λ (x : Step). take k steps ++ x ∷ []) (sym is))
 
--- after an Advance its own checkpoint is held, and after a Sign what was held before
+-- after an Advance its own checkpoint is held, and after any other step what was held before
 pub held_advance : (h : HashFunction) (steps : List Step) (k size : ℕ) (root : Hash)
     (proof : List Hash) → k < length steps
     → Advance size root proof ≡ get_or steps k (Advance size root proof)
@@ -58,14 +56,23 @@ held_advance h steps k size root proof below is =
     ap (held_by h) (taken steps k (Advance size root proof) below is)
     ∙ held_push h (take k steps) (Advance size root proof)
 
+abbrev pub KeepsHeld : Step → Type 0
+KeepsHeld s = (p : Progress) → (with_step p s).held ≡ p.held
+
+pub held_same : (h : HashFunction) (steps : List Step) (k : ℕ) (s : Step) → KeepsHeld s
+    → k < length steps → s ≡ get_or steps k s
+    → held_by_first h steps (k + 1) ≡ held_by_first h steps k
+unfolding held_by
+held_same h steps k s keeps below is =
+    ap (held_by h) (taken steps k s below is) ∙ (held_push h (take k steps) s
+    ∙ keeps (with_steps (first_progress h) (take k steps)))
+
 pub held_sign : (h : HashFunction) (steps : List Step) (k index start end : ℕ) (hash : Hash)
     (proof : List Hash) → k < length steps
     → Sign index start end hash proof ≡ get_or steps k (Sign index start end hash proof)
     → held_by_first h steps (k + 1) ≡ held_by_first h steps k
-unfolding held_by
 held_sign h steps k index start end hash proof below is =
-    ap (held_by h) (taken steps k (Sign index start end hash proof) below is)
-    ∙ held_push h (take k steps) (Sign index start end hash proof)
+    held_same h steps k (Sign index start end hash proof) (λ p. refl) below is
 
 -- ---- what is allowed
 
@@ -123,9 +130,12 @@ size_at (Advance a b c ∷ steps) zero size root proof below is =
     let same : size ≡ a = cc in
     subst (Contains (a ∷ held_sizes steps)) (sym same) (first_in a (held_sizes steps))
 size_at (Sign a b c d e ∷ steps) zero size root proof below is = absurd cc
+size_at (Child a b ∷ steps) zero size root proof below is = absurd cc
 size_at (Advance a b c ∷ steps) (suc k) size root proof below is =
     later_in a size (held_sizes steps) (size_at steps k size root proof (omega arith) is)
 size_at (Sign a b c d e ∷ steps) (suc k) size root proof below is =
+    size_at steps k size root proof (omega arith) is
+size_at (Child a b ∷ steps) (suc k) size root proof below is =
     size_at steps k size root proof (omega arith) is
 
 size_from : (p : Progress) (steps : List Step)
@@ -142,6 +152,7 @@ size_from p (Advance a b c ∷ steps) =
       | inr c ↦ inr (later_in a (with_steps q steps).held.size (held_sizes steps) c)
     ]
 size_from p (Sign a b c d e ∷ steps) = size_from (with_step p (Sign a b c d e)) steps
+size_from p (Child a b ∷ steps) = size_from (with_step p (Child a b)) steps
 
 -- What is held is nothing, or a checkpoint of some Advance.
 pub size_held : (h : HashFunction) (steps : List Step)
@@ -210,6 +221,11 @@ rises h terms p q (Sign index start end hash proof ∷ steps) e =
     let one = step_first (is_allowed h terms p s) (with_step p s) q
     (λ (r : Progress). progress_by h terms r steps) e in
     rises h terms (with_step p s) q steps one.1
+rises h terms p q (Child child low ∷ steps) e =
+    let s = Child child low in
+    let one = step_first (is_allowed h terms p s) (with_step p s) q
+    (λ (r : Progress). progress_by h terms r steps) e in
+    rises h terms (with_step p s) q steps one.1
 
 pub rises_to : (h : HashFunction) (terms : KeyTerms) (p q : Progress) (steps : List Step) (k : ℕ)
     → progress_by h terms p steps ≡ Some q
@@ -242,6 +258,11 @@ none_held h terms p q (Sign index start end hash proof ∷ steps) (suc k) e none
     let one = step_first (is_allowed h terms p s) (with_step p s) q
     (λ (r : Progress). progress_by h terms r steps) e in
     none_held h terms (with_step p s) q steps k one.1 none
+none_held h terms p q (Child child low ∷ steps) (suc k) e none =
+    let s = Child child low in
+    let one = step_first (is_allowed h terms p s) (with_step p s) q
+    (λ (r : Progress). progress_by h terms r steps) e in
+    none_held h terms (with_step p s) q steps k one.1 none
 
 pub sizes_take : (steps : List Step) (k m : ℕ) → Contains (held_sizes (take k steps)) m
     → Contains (held_sizes steps) m
@@ -251,3 +272,4 @@ sizes_take [] (suc k) m c = c
 sizes_take (Advance a b d ∷ steps) (suc k) m c = first_or a (held_sizes (take k steps))
     (held_sizes steps) m (sizes_take steps k m) c.0 c.1 c.2
 sizes_take (Sign a b d e f ∷ steps) (suc k) m c = sizes_take steps k m c
+sizes_take (Child a b ∷ steps) (suc k) m c = sizes_take steps k m c

@@ -13,7 +13,7 @@ use Rattle.collide.specs.declared.finding.Finding.TheVariants.{Pair, Same}
 use Rattle.cosigner_core.specs.Progress.{first_progress, progress_by, with_step}
 use Rattle.cosigner_core.specs.declared.progress.Progress.{Progress}
 use Rattle.cosigner_core.specs.declared.step.Step.{Step}
-use Rattle.cosigner_core.specs.declared.step.Step.TheVariants.{Advance, Sign}
+use Rattle.cosigner_core.specs.declared.step.Step.TheVariants.{Advance, Child, Sign}
 use Rattle.cosigner_core.specs.declared.terms.KeyTerms.{KeyTerms}
 
 -- How far steps bring a cosigner, whether they are allowed or not.
@@ -39,12 +39,14 @@ pub record HasPrefix (h : HashFunction) (entries : List Text) (c : Checkpoint) :
   pub within : c.size ≤ length entries
   pub root : tree_hash h (take c.size entries) ≡ c.root
 
--- The strings that are hashed in the opening of a step's proof, where this checkpoint is held.
+-- The strings that are hashed in the opening of a step's proof, where this checkpoint is held. A
+-- Child has no proof.
 abbrev pub step_inputs : HashFunction → Checkpoint → Step → List Text
 step_inputs h held (Advance size root proof) =
     open_inputs_of h 0 held.size size true held.root proof
 step_inputs h held (Sign index start end hash proof) =
     open_inputs_of h start end held.size true hash proof
+step_inputs h held (Child child low) = []
 
 unfoldable pub inputs_from : HashFunction → Progress → List Step → List Text
 inputs_from h p [] = []
@@ -60,6 +62,7 @@ unfoldable pub held_sizes : List Step → List ℕ
 held_sizes [] = []
 held_sizes (Advance size root proof ∷ steps) = size ∷ held_sizes steps
 held_sizes (Sign index start end hash proof ∷ steps) = held_sizes steps
+held_sizes (Child child low ∷ steps) = held_sizes steps
 
 -- The strings that are hashed in the tree hash of so many of the first entries, for each of them.
 abbrev pub prefix_inputs : HashFunction → List Text → List Step → List Text
@@ -70,6 +73,7 @@ abbrev pub IsOfList : HashFunction → List Text → Step → Type 0
 IsOfList h entries (Advance size root proof) = Unit {0}
 IsOfList h entries (Sign index start end hash proof) =
     tree_hash h (part_of entries start end) ≡ hash
+IsOfList h entries (Child child low) = Unit {0}
 
 -- These are two strings with one hash.
 abbrev pub Shows : HashFunction → List Text → List Text → Finding → Type 0
@@ -80,8 +84,10 @@ Shows h firsts seconds (Pair x y) = IsCollision h firsts seconds x y
 abbrev pub IsSign : Step → Type 0
 IsSign (Advance size root proof) = ⊥
 IsSign (Sign index start end hash proof) = Unit {0}
+IsSign (Child child low) = ⊥
 
 -- The interval of a Sign lies within so many entries.
 abbrev pub IsWithin : ℕ → Step → Type 0
 IsWithin count (Advance size root proof) = Unit {0}
 IsWithin count (Sign index start end hash proof) = (start ≤ end) × (end ≤ count)
+IsWithin count (Child child low) = Unit {0}

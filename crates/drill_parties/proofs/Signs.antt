@@ -16,7 +16,7 @@ use Rattle.cosigner_core.specs.Progress.{steps_in}
 use Rattle.cosigner_core.specs.Records.{step_in}
 use Rattle.cosigner_core.specs.declared.lists.Export.{Export}
 use Rattle.cosigner_core.specs.declared.step.Step.{Step}
-use Rattle.cosigner_core.specs.declared.step.Step.TheVariants.{Advance, Sign}
+use Rattle.cosigner_core.specs.declared.step.Step.TheVariants.{Advance, Child, Sign}
 use Rattle.cosigner_core.proofs.Counts.{counts_up}
 use Rattle.cosigner_core.proofs.Keys.{few_keys}
 use Rattle.drill_parties.specs.CosignerParties.{IsCosignerDisk}
@@ -35,6 +35,11 @@ one_step (Sign a b c d e) (Some (Sign i j k l m)) rest indices said more =
     omega (arith, more, one)
 one_step (Advance a b c) (Some (Sign i j k l m)) rest indices said more = cc
 one_step (Sign a b c d e) (Some (Advance i j k)) rest indices said more = cc
+one_step (Child a b) (Some (Child c d)) rest indices said more = more
+one_step (Child a b) (Some (Advance i j k)) rest indices said more = cc
+one_step (Child a b) (Some (Sign i j k l m)) rest indices said more = cc
+one_step (Advance a b c) (Some (Child i j)) rest indices said more = cc
+one_step (Sign a b c d e) (Some (Child i j)) rest indices said more = cc
 
 -- the steps that records say have as many Signs as the records
 pub signs_said : (bodies : List Text) (steps : List Step) → steps_in bodies ≡ Some steps
@@ -61,12 +66,12 @@ following_first (first ∷ bodies) = refl
 -- as many as one-time keys are used
 pub signs_used : (h : HashFunction) (list : List Text) (s : CosignerState)
     → cosigner_of h list ≡ Ok s → s.key.next ≡ length (indices_of list)
-signs_used h list s is = (counts_up h list s is).count
+signs_used h list s is = (counts_up h list s is).0.count
 
 pub few_signs : (h : HashFunction) (list : List Text) (s : CosignerState)
     → cosigner_of h list ≡ Ok s → length (indices_of list) ≤ 2 ^ 25
 few_signs h list s is =
-    let up = counts_up h list s is in
+    let up = (counts_up h list s is).0 in
     let few = up.few in
     let count = up.count in
     let keys = few_keys h list s is in

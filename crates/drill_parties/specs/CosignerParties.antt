@@ -90,7 +90,8 @@ pub record HasSign (start end : ℕ) (hash : Hash) (list : List Text) : Type 0 w
 
 -- The settings of 32473.N, a cosigner of the log.
 abbrev pub cosigner_settings : ℕ → CosignerSettings
-cosigner_settings last = record { id = id_of last; log = drill_log_id; lms = H5; ots = W4 }
+cosigner_settings last =
+    record { id = id_of last; log = drill_log_id; lms = H5; low = None; ots = W4 }
 
 -- The secret of 32473.N in the drill with a number: 16 bytes of N, and the number four times in
 -- eight bytes.

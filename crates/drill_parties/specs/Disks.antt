@@ -6,7 +6,7 @@ use Rattle.disk_core.specs.declared.memory.mem_disk.MemDisk.{MemDisk}
 use Rattle.journal_core.specs.Format.{records_of}
 use Rattle.cosigner_core.specs.Counts.{indices_of}
 use Rattle.cosigner_core.specs.declared.step.Step.{Step}
-use Rattle.cosigner_core.specs.declared.step.Step.TheVariants.{Advance, Sign}
+use Rattle.cosigner_core.specs.declared.step.Step.TheVariants.{Advance, Child, Sign}
 
 -- the records of a disk in memory
 abbrev pub records_on : MemDisk → List Text
@@ -21,6 +21,7 @@ pub record FailsNone (disk : MemDisk) : Type 0 where
 abbrev pub is_sign : Step → Bool
 is_sign (Advance size root proof) = false
 is_sign (Sign index start end hash proof) = true
+is_sign (Child child low) = false
 
 -- how many records on the disk of a cosigner are Signs
 abbrev pub signs_on : MemDisk → ℕ

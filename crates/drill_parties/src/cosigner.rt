@@ -50,6 +50,7 @@ fn settings_of(alloc: Global, last: u8) -> Result<CosignerSettings, Memory>
         id: id_of(alloc, last)?,
         log: id_of(alloc, LOG)?,
         lms: LmsType::H5,
+        low: None,
         ots: OtsType::W4,
     })
 }

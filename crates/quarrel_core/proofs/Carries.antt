@@ -11,8 +11,8 @@ use Rattle.collide.specs.Inputs.{open_inputs_of}
 use Rattle.cosigner_core.specs.Progress.{first_progress}
 use Rattle.cosigner_core.specs.declared.step.Step.{Step}
 use Rattle.cosigner_core.specs.declared.step.Step.TheVariants.{Advance, Sign}
-use Rattle.cosigner_steps.proofs.Steps.{advance_checks, allowed_at, held_advance, held_sign}
-use Rattle.cosigner_steps.proofs.Steps.{inputs_at, sign_checks}
+use Rattle.cosigner_steps.proofs.Steps.{KeepsHeld, advance_checks, allowed_at, held_advance}
+use Rattle.cosigner_steps.proofs.Steps.{held_same, inputs_at, sign_checks}
 use Rattle.cosigner_steps.specs.Steps.{AreSteps, held_by_first, held_by, proof_inputs, with_steps}
 use Rattle.quarrel_core.proofs.Joins.{ProofsJoin_always}
 use Rattle.quarrel_core.specs.Carrying.{TextsAmong, CarriesTo, IsCarried}
@@ -121,16 +121,15 @@ over_advance h sized steps k start end size node root proof next joined are belo
     (ProofsJoin_always h sized start end held.size size node held.root root proof next onward.grows
     carried.whole whole carried.checks onward.checks)))
 
--- over a Sign
-pub over_sign : (h : HashFunction) (steps : List Step) (k start end : ℕ) (node : Hash)
-    (proof : List Hash) (index from to : ℕ) (hash : Hash) (shown : List Hash) → k < length steps
-    → Sign index from to hash shown ≡ get_or steps k (Sign index from to hash shown)
+-- over a step that changes nothing of what is held
+pub over_same : (h : HashFunction) (steps : List Step) (k start end : ℕ) (node : Hash)
+    (proof : List Hash) (s : Step) → KeepsHeld s → k < length steps → s ≡ get_or steps k s
     → IsCarried h start end node (held_by_first h steps k) (proof_inputs h steps) proof
     → CarriesTo h start end node (held_by_first h steps (k + 1)) (proof_inputs h steps)
     (Proof proof)
-over_sign h steps k start end node proof index from to hash shown below is carried =
+over_same h steps k start end node proof s keeps below is carried =
     subst (λ (c : Checkpoint). IsCarried h start end node c (proof_inputs h steps) proof)
-    (sym (held_sign h steps k index from to hash shown below is)) carried
+    (sym (held_same h steps k s keeps below is)) carried
 
 -- The same where what is held, and both proofs, have names of their own.
 
@@ -169,14 +168,12 @@ advance_carries h sized steps k start end size node root held proof next first s
     first_is
     ∙ ap (joined_of h start end there.size size node there.root proof) second_is)
 
-pub sign_carries : (h : HashFunction) (steps : List Step) (k start end : ℕ) (node : Hash)
-    (held : Checkpoint) (proof : List Hash) (index from to : ℕ) (hash : Hash) (shown : List Hash)
-    → k < length steps
-    → Sign index from to hash shown ≡ get_or steps k (Sign index from to hash shown)
-    → held ≡ held_by_first h steps k
+pub same_carries : (h : HashFunction) (steps : List Step) (k start end : ℕ) (node : Hash)
+    (held : Checkpoint) (proof : List Hash) (s : Step) → KeepsHeld s → k < length steps
+    → s ≡ get_or steps k s → held ≡ held_by_first h steps k
     → IsCarried h start end node held (proof_inputs h steps) proof
     → IsCarried h start end node (held_by_first h steps (k + 1)) (proof_inputs h steps) proof
-sign_carries h steps k start end node held proof index from to hash shown below is held_is carried =
-    over_sign h steps k start end node proof index from to hash shown below is
+same_carries h steps k start end node held proof s keeps below is held_is carried =
+    over_same h steps k start end node proof s keeps below is
     (subst (λ (c : Checkpoint). IsCarried h start end node c (proof_inputs h steps) proof) held_is
     carried)

@@ -15,11 +15,11 @@ use Rattle.cosigner_steps.proofs.OneList.{hashes_at}
 use Rattle.cosigner_core.specs.Progress.{first_progress, with_step}
 use Rattle.cosigner_core.specs.declared.progress.Progress.{Progress}
 use Rattle.cosigner_core.specs.declared.step.Step.{Step}
-use Rattle.cosigner_core.specs.declared.step.Step.TheVariants.{Advance, Sign}
+use Rattle.cosigner_core.specs.declared.step.Step.TheVariants.{Advance, Child, Sign}
 use Rattle.cosigner_steps.proofs.Steps.{allowed_at, with_steps_push}
 use Rattle.cosigner_steps.specs.Laws.{HasHashes}
 use Rattle.cosigner_steps.specs.Steps.{AreSteps, held_by_first, proof_inputs, with_steps}
-use Rattle.quarrel_core.proofs.Carries.{over_advance, over_sign, sign_carried}
+use Rattle.quarrel_core.proofs.Carries.{over_advance, over_same, sign_carried}
 use Rattle.quarrel_core.proofs.Contrasts.{OneSubtree_always}
 use Rattle.quarrel_core.specs.Carrying.{CarriesTo, IsCarried}
 use Rattle.quarrel_core.specs.Joining.{joined_of}
@@ -63,7 +63,11 @@ step_on h sized steps k start end node proof (Advance size root next) are below 
 step_on h sized steps k start end node proof (Sign index from to hash shown) are below is whole
     carried =
     carried_or h steps start end node (k + 1) (Proof proof)
-    (over_sign h steps k start end node proof index from to hash shown below is carried)
+    (over_same h steps k start end node proof (Sign index from to hash shown) (λ p. refl) below is
+    carried)
+step_on h sized steps k start end node proof (Child child low) are below is whole carried =
+    carried_or h steps start end node (k + 1) (Proof proof)
+    (over_same h steps k start end node proof (Child child low) (λ p. refl) below is carried)
 
 steps_on : (n : ℕ) (h : HashFunction) → IsSized h → (steps : List Step) (k j start end : ℕ)
     (node : Hash) (proof : List Hash) → AreSteps h steps → AllByRecursion HasHashes steps
@@ -129,13 +133,18 @@ rising h sized steps i j (Sign a s e hash p) (Sign b t f node q) are hashes less
     (steps_on (j - i) h sized steps i j s e hash p are hashes (omega arith) (omega arith) carried)
 rising h sized steps i j (Sign a s e hash p) (Advance size root q) are hashes less first second is =
     absurd is
+rising h sized steps i j (Sign a s e hash p) (Child child low) are hashes less first second is =
+    absurd is
 rising h sized steps i j (Advance size root p) other are hashes less first second is = absurd is
+rising h sized steps i j (Child child low) other are hashes less first second is = absurd is
 
 turned_conflict : (x y : Step) → AreInConflict x y → AreInConflict y x
 turned_conflict (Sign a s e hash p) (Sign b t f node q) is =
     (sym is.0, sym is.1, λ same. is.2 (sym same))
 turned_conflict (Sign a s e hash p) (Advance size root q) is = absurd is
+turned_conflict (Sign a s e hash p) (Child child low) is = absurd is
 turned_conflict (Advance size root p) y is = absurd is
+turned_conflict (Child child low) y is = absurd is
 
 self_conflict : (x y : Step) → x ≡ y → AreInConflict x y → ⊥
 self_conflict x y same is = self x (subst (AreInConflict x) (sym same) is)
@@ -143,6 +152,7 @@ self_conflict x y same is = self x (subst (AreInConflict x) (sym same) is)
     self : (x : Step) → AreInConflict x x → ⊥
     self (Sign a s e hash p) is = is.2 refl
     self (Advance size root p) is = is
+    self (Child child low) is = is
 
 pub QuarrelsCollide_always : (h : HashFunction) → IsSized h → QuarrelsCollide h
 QuarrelsCollide_always h sized steps i j are hashes at =
@@ -171,6 +181,7 @@ next_grows p (Advance size root proof ∷ steps) =
 next_grows p (Sign index start end hash proof ∷ steps) =
     let more = next_grows (with_step p (Sign index start end hash proof)) steps in
     omega arith
+next_grows p (Child child low ∷ steps) = next_grows (with_step p (Child child low)) steps
 
 next_taken : (p : Progress) (steps : List Step) (k : ℕ)
     → (with_steps p (take k steps)).next ≤ (with_steps p steps).next

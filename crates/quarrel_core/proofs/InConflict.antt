@@ -12,7 +12,7 @@ use Rattle.std.proofs.lemmas.Option.{slice_get-get_or}
 use Rattle.std.proofs.lemmas.Option.{slice_get_within, some_pair_parts}
 use Rattle.std.proofs.lemmas.Slice.Eq.{bytes_eq-Decides}
 use Rattle.cosigner_core.specs.declared.step.Step.{Step}
-use Rattle.cosigner_core.specs.declared.step.Step.TheVariants.{Advance, Sign}
+use Rattle.cosigner_core.specs.declared.step.Step.TheVariants.{Advance, Child, Sign}
 use Rattle.quarrel_core.proofs.Indices.{none_passes}
 use Rattle.quarrel_core.specs.Conflicts.{conflict_after, conflict_in, conflicts, indices_or}
 use Rattle.quarrel_core.specs.ConflictLaws.{AreInConflict, ConflictAt, ConflictsAreFirst}
@@ -30,7 +30,9 @@ in_conflict (Sign i s e a p) (Sign j t f b q) is =
       λ same. false≢true (sym (not-true (bytes_eq a b) second.1) ∙ decides.1 (sym same)),
     )
 in_conflict (Sign i s e a p) (Advance size root q) is = absurd (false≢true is)
+in_conflict (Sign i s e a p) (Child child low) is = absurd (false≢true is)
 in_conflict (Advance size root p) y is = absurd (false≢true is)
+in_conflict (Child child low) y is = absurd (false≢true is)
 
 pub of_conflict : (x y : Step) → AreInConflict x y → conflicts y x ≡ true
 of_conflict (Sign i s e a p) (Sign j t f b q) is =
@@ -42,7 +44,9 @@ of_conflict (Sign i s e a p) (Sign j t f b q) is =
     differ true same = let decides = bytes_eq-Decides b a in absurd (is.2 (sym (decides.0 same)))
     differ false same = refl
 of_conflict (Sign i s e a p) (Advance size root q) is = absurd is
+of_conflict (Sign i s e a p) (Child child low) is = absurd is
 of_conflict (Advance size root p) y is = absurd is
+of_conflict (Child child low) y is = absurd is
 
 -- Steps in a list.
 

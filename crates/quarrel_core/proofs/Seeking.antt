@@ -16,7 +16,8 @@ use Rattle.std.proofs.lemmas.List.Quantifiers.{position-Some}
 use Rattle.std.proofs.lemmas.Slice.Eq.{bytes_eq-Decides}
 use Rattle.byte_formats.specs.Types.{Hash}
 use Rattle.cosigner_core.specs.declared.step.Step.{Step}
-use Rattle.cosigner_core.specs.declared.step.Step.TheVariants.{Advance, Sign}
+use Rattle.cosigner_core.specs.declared.step.Step.TheVariants.{Advance, Child, Sign}
+use Rattle.cosigner_steps.proofs.Holding.{NeverSigns}
 use Rattle.quarrel_core.proofs.InConflict.{conflict_end, conflict_here, conflict_next}
 use Rattle.quarrel_core.proofs.Indices.{last_fails, none_passes, passes_last, position_is}
 use Rattle.quarrel_core.proofs.Indices.{position_none}
@@ -70,11 +71,13 @@ same_key a b =
 hash_of : Step → Hash
 hash_of (Advance size root proof) = root
 hash_of (Sign index start end hash proof) = hash
+hash_of (Child child low) = []
 
 conflict_of_signs : (i s e : ℕ) (a : Hash) (p : List Hash) (x : Step) → signs (s, e) x ≡ true
     → conflicts (Sign i s e a p) x ≡ not (bytes_eq a (hash_of x))
 unfolding hash_of
 conflict_of_signs i s e a p (Advance size root q) is = absurd (false≢true is)
+conflict_of_signs i s e a p (Child child low) is = absurd (false≢true is)
 conflict_of_signs i s e a p (Sign j t f b q) is =
     let both = and_parts (eqb t s) (eqb f e) is in
     ap (λ (c : Bool). c && (eqb f e && not (bytes_eq a b))) both.0
@@ -83,6 +86,7 @@ conflict_of_signs i s e a p (Sign j t f b q) is =
 no_conflict_apart : (i s e : ℕ) (a : Hash) (p : List Hash) (x : Step) → signs (s, e) x ≡ false
     → conflicts (Sign i s e a p) x ≡ false
 no_conflict_apart i s e a p (Advance size root q) apart = refl
+no_conflict_apart i s e a p (Child child low) apart = refl
 no_conflict_apart i s e a p (Sign j t f b q) apart =
     by (eqb t s) (eqb f e) (not (bytes_eq a b)) apart
   where
@@ -102,6 +106,7 @@ one_hash : (s e : ℕ) (x f : Step) → signs (s, e) x ≡ true → signs (s, e)
     → conflicts x f ≡ false → hash_of x ≡ hash_of f
 unfolding hash_of
 one_hash s e (Advance size root q) f is also none = absurd (false≢true is)
+one_hash s e (Child child low) f is also none = absurd (false≢true is)
 one_hash s e (Sign j t u b q) f is also none =
     let both = and_parts (eqb t s) (eqb u e) is in
     let first = eqb-true t s both.0 in
@@ -115,6 +120,7 @@ never_itself x f same = subst (λ (y : Step). conflicts x y ≡ false) same (sel
   where
     self : (x : Step) → conflicts x x ≡ false
     self (Advance size root q) = refl
+    self (Child child low) = refl
     self (Sign j t u b q) =
         let decides = bytes_eq-Decides b b in
         ap (λ (c : Bool). c && (eqb u u && not (bytes_eq b b))) (eq-eqb t t refl)
@@ -201,23 +207,35 @@ taken_length : (steps : List Step) (place : ℕ) → place < length steps
     → length (take place steps) ≡ place
 taken_length steps place below = length-take-le place steps (omega arith)
 
-pub sought_advance : (steps : List Step) (place : ℕ) (at : ℕ × ℕ → Option ℕ) (size : ℕ)
-    (root : Hash) (proof : List Hash) → place < length steps
-    → get_or steps place (Advance size root proof) ≡ Advance size root proof
+no_conflict : (s x : Step) → NeverSigns s → conflicts s x ≡ false
+no_conflict (Advance size root proof) x none = refl
+no_conflict (Child child low) x none = refl
+no_conflict (Sign index start end hash proof) x none =
+    absurd (none index start end hash proof refl)
+
+no_interval : (q : ℕ × ℕ) (s : Step) → NeverSigns s → signs q s ≡ false
+no_interval q (Advance size root proof) none = refl
+no_interval q (Child child low) none = refl
+no_interval q (Sign index start end hash proof) none =
+    absurd (none index start end hash proof refl)
+
+-- one step more, which is no Sign
+pub sought_other : (steps : List Step) (place : ℕ) (at : ℕ × ℕ → Option ℕ) (step : Step)
+    → NeverSigns step → place < length steps → get_or steps place step ≡ step
     → IsSought steps place at → IsSought steps (place + 1) at
-sought_advance steps place at size root proof below here is =
-    let step = Advance size root proof in
+sought_other steps place at step none below here is =
     let size_is = taken_length steps place below in
     record {
-      whole = next_whole steps place at (Advance size root proof) below here is
-          (position_none (conflicts (Advance size root proof)) (take place steps) step
-          (λ k within. refl));
+      whole = next_whole steps place at step below here is
+          (position_none (conflicts step) (take place steps) step
+          (λ k within. no_conflict step (get_or (take place steps) k step) none));
       firsts = λ q.
           is.firsts q
-          ∙ sym (last_fails (signs q) (take place steps) (Advance size root proof) step refl)
+          ∙ sym (last_fails (signs q) (take place steps) step step (no_interval q step none))
           ∙ sym (ap (position (signs q)) (take_more steps place step below
           ∙ ap (λ (x : Step). take place steps ++ x ∷ []) here));
-      quiet = next_quiet steps place at (Advance size root proof) below here is (λ d k less. refl);
+      quiet = next_quiet steps place at step below here is
+          (λ d k less. no_conflict step (get_or steps k d) none);
     }
 
 -- A Sign, with the first of its interval.

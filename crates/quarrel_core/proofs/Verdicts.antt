@@ -14,8 +14,9 @@ use Rattle.collide.specs.Inputs.{open_inputs_of}
 use Rattle.collide.specs.declared.finding.Finding.{Finding}
 use Rattle.collide.specs.declared.finding.Finding.TheVariants.{Pair, Same}
 use Rattle.cosigner_core.specs.declared.step.Step.{Step}
-use Rattle.cosigner_core.specs.declared.step.Step.TheVariants.{Advance, Sign}
-use Rattle.cosigner_steps.specs.Steps.{AreSteps, Shows, held_by_first, proof_inputs}
+use Rattle.cosigner_core.specs.declared.step.Step.TheVariants.{Advance, Child, Sign}
+use Rattle.cosigner_steps.proofs.Holding.{NeverSigns, never_sign}
+use Rattle.cosigner_steps.specs.Steps.{AreSteps, IsSign, Shows, held_by_first, proof_inputs}
 use Rattle.quarrel_core.proofs.Carries.{sign_carried}
 use Rattle.quarrel_core.proofs.InConflict.{first_conflict}
 use Rattle.quarrel_core.specs.Carrying.{CarriesTo, IsCarried}
@@ -55,35 +56,29 @@ conflict_steps steps i j x y found first second =
     ∙ ap (λ (s : Step). Some s) (sym second)) in
     subst (λ (s : Step). AreInConflict s y) one (subst (AreInConflict at.one) other at.conflict)
 
-pub first_signs : (x y : Step) (size : ℕ) (root : Hash) (proof : List Hash)
-    → AreInConflict x y → x ≡ Advance size root proof → ⊥
-first_signs x y size root proof is same =
-    subst (λ (s : Step). AreInConflict s y) same is
+-- Both are Signs.
+pub are_signs : (x y : Step) → AreInConflict x y → IsSign x × IsSign y
+are_signs (Sign i s e a p) (Sign j t f b q) is = (tt, tt)
+are_signs (Sign i s e a p) (Advance size root q) is = absurd is
+are_signs (Sign i s e a p) (Child child low) is = absurd is
+are_signs (Advance size root p) y is = absurd is
+are_signs (Child child low) y is = absurd is
 
-pub second_signs : (x y : Step) (size : ℕ) (root : Hash) (proof : List Hash)
-    → AreInConflict x y → y ≡ Advance size root proof → ⊥
-second_signs (Sign i s e a p) y size root proof is same =
-    subst (AreInConflict (Sign i s e a p)) same is
-second_signs (Advance n r q) y size root proof is same = is
-
--- Neither is an Advance.
-pub first_no_advance : (steps : List Step) (i j : ℕ) (x : Step) (size : ℕ) (root : Hash)
-    (proof : List Hash) → conflict_in steps ≡ Some (i, j) → x ≡ get_or steps i x
-    → x ≡ Advance size root proof → ⊥
-first_no_advance steps i j x size root proof found first same =
+pub first_signs : (steps : List Step) (i j : ℕ) (x : Step) → conflict_in steps ≡ Some (i, j)
+    → x ≡ get_or steps i x → NeverSigns x → ⊥
+first_signs steps i j x found first none =
     let at = (first_conflict steps i j found).conflict in
-    first_signs x at.other size root proof
+    never_sign x none (are_signs x at.other
     (conflict_steps steps i j x at.other found first
-    (sym (get_or_from_slice_get steps j at.other at.other at.second))) same
+    (sym (get_or_from_slice_get steps j at.other at.other at.second)))).0
 
-pub second_no_advance : (steps : List Step) (i j : ℕ) (y : Step) (size : ℕ) (root : Hash)
-    (proof : List Hash) → conflict_in steps ≡ Some (i, j) → y ≡ get_or steps j y
-    → y ≡ Advance size root proof → ⊥
-second_no_advance steps i j y size root proof found second same =
+pub second_signs : (steps : List Step) (i j : ℕ) (y : Step) → conflict_in steps ≡ Some (i, j)
+    → y ≡ get_or steps j y → NeverSigns y → ⊥
+second_signs steps i j y found second none =
     let at = (first_conflict steps i j found).conflict in
-    second_signs at.one y size root proof
+    never_sign y none (are_signs at.one y
     (conflict_steps steps i j at.one y found
-    (sym (get_or_from_slice_get steps i at.one at.one at.first)) second) same
+    (sym (get_or_from_slice_get steps i at.one at.one at.first)) second)).1
 
 -- The proofs of both Signs, for the interval of the first.
 pub first_carried : (h : HashFunction) (steps : List Step) (i index start end : ℕ) (hash : Hash)

@@ -4,7 +4,7 @@ use Rattle.std.specs.List.{AllByRecursion}
 use Rattle.byte_formats.specs.Types.{Hash, HashFunction}
 use Rattle.collide.specs.Extraction.{HasCollision}
 use Rattle.cosigner_core.specs.declared.step.Step.{Step}
-use Rattle.cosigner_core.specs.declared.step.Step.TheVariants.{Advance, Sign}
+use Rattle.cosigner_core.specs.declared.step.Step.TheVariants.{Advance, Child, Sign}
 use Rattle.cosigner_steps.specs.Laws.{HasHashes}
 use Rattle.cosigner_steps.specs.Steps.{AreSteps, proof_inputs}
 use Rattle.quarrel_core.specs.Conflicts.{conflict_in}
@@ -14,7 +14,9 @@ abbrev pub AreInConflict : Step → Step → Type 0
 AreInConflict (Sign index start end hash proof) (Sign number from to node shown) =
     (start ≡ from) × (end ≡ to) × (hash ≢ node)
 AreInConflict (Sign index start end hash proof) (Advance size root shown) = ⊥
+AreInConflict (Sign index start end hash proof) (Child child low) = ⊥
 AreInConflict (Advance size root proof) step = ⊥
+AreInConflict (Child child low) step = ⊥
 
 -- The steps at these indices are in conflict.
 pub record ConflictAt (steps : List Step) (i j : ℕ) : Type 0 where

@@ -3,14 +3,16 @@ use Rattle.std.specs.Prelude.{ℕ, ◌&&◌, ◌==◌, not, Bool, false, bytes_e
 use Rattle.std.specs.Prelude.{◌∷◌, ◌++◌, length, Option, Some, None, option_map, slice_get}
 use Rattle.std.specs.List.{position}
 use Rattle.cosigner_core.specs.declared.step.Step.{Step}
-use Rattle.cosigner_core.specs.declared.step.Step.TheVariants.{Advance, Sign}
+use Rattle.cosigner_core.specs.declared.step.Step.TheVariants.{Advance, Child, Sign}
 
 -- Both steps are Signs of one interval, with different hashes.
 abbrev pub conflicts : Step → Step → Bool
 conflicts (Sign index start end hash proof) (Sign number from to node shown) =
     (from == start) && ((to == end) && not (bytes_eq hash node))
 conflicts (Sign index start end hash proof) (Advance size root shown) = false
+conflicts (Sign index start end hash proof) (Child child low) = false
 conflicts (Advance size root proof) step = false
+conflicts (Child child low) step = false
 
 -- The two indices, where an earlier one was found.
 abbrev pub indices_or : Option ℕ → ℕ → Option (ℕ × ℕ) → Option (ℕ × ℕ)
@@ -33,6 +35,7 @@ conflict_in steps = conflict_after [] steps
 abbrev pub key_number : Step → ℕ
 key_number (Advance size root proof) = 0
 key_number (Sign index start end hash proof) = index
+key_number (Child child low) = 0
 
 abbrev pub key_in : Option Step → ℕ
 key_in (Some step) = key_number step

@@ -4,7 +4,7 @@ use Rattle.std.specs.BTreeMap.{BTreeMap, get}
 use Rattle.std.specs.Ordering.{nat_cmp, ordering_then}
 use Rattle.std.specs.declared.cmp.Ordering.{Ordering}
 use Rattle.cosigner_core.specs.declared.step.Step.{Step}
-use Rattle.cosigner_core.specs.declared.step.Step.TheVariants.{Advance, Sign}
+use Rattle.cosigner_core.specs.declared.step.Step.TheVariants.{Advance, Child, Sign}
 
 -- The order of intervals.
 abbrev pub interval_cmp : ℕ × ℕ → ℕ × ℕ → Ordering
@@ -18,3 +18,4 @@ first_sign_in firsts interval = get interval_cmp firsts interval
 abbrev pub signs : ℕ × ℕ → Step → Bool
 signs interval (Sign index start end hash proof) = (start == interval.0) && (end == interval.1)
 signs interval (Advance size root proof) = false
+signs interval (Child child low) = false

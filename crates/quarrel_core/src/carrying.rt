@@ -25,7 +25,7 @@ fn held_after<H: TreeHash>(steps: &[Step], place: usize, held: &Checkpoint) -> C
             size: *size,
             root: *root,
         },
-        Step::Sign { .. } => *held,
+        Step::Sign { .. } | Step::Child { .. } => *held,
     }
 }
 
@@ -49,7 +49,7 @@ fn onward<H: TreeHash>(
         (held_by_first H.hash steps.now (place + 1)) (proof_inputs H.hash steps.now)) }
 {
     match &steps[place] {
-        Step::Sign { .. } => Ok(Joined::Proof(proof)),
+        Step::Sign { .. } | Step::Child { .. } => Ok(Joined::Proof(proof)),
         Step::Advance {
             size,
             proof: next,

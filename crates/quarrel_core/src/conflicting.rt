@@ -16,14 +16,14 @@ fn are_in_conflict(one: &Step, other: &Step) -> bool
     ensures { result ≡ conflicts one.now other.now }
 {
     match one {
-        Step::Advance { .. } => false,
+        Step::Advance { .. } | Step::Child { .. } => false,
         Step::Sign {
             start,
             end,
             hash,
             ..
         } => match other {
-            Step::Advance { .. } => false,
+            Step::Advance { .. } | Step::Child { .. } => false,
             Step::Sign {
                 start: from,
                 end: to,

@@ -25,7 +25,7 @@ fn key_at(steps: &[Step], place: usize) -> u32
     ensures { result ≡ key_in (slice_get steps.now place) }
 {
     match &steps[place] {
-        Step::Advance { .. } => 0,
+        Step::Advance { .. } | Step::Child { .. } => 0,
         Step::Sign { index, .. } => *index,
     }
 }

@@ -36,7 +36,7 @@ use Rattle.mtc_proof.specs.Proofs.{ProofParts}
 use Rattle.mtc_proof.specs.Reading.{proof_in}
 use Rattle.cosigner_core.specs.declared.lists.Export.{Export}
 use Rattle.cosigner_core.specs.declared.step.Step.{Step}
-use Rattle.cosigner_core.specs.declared.step.Step.TheVariants.{Advance, Sign}
+use Rattle.cosigner_core.specs.declared.step.Step.TheVariants.{Advance, Child, Sign}
 use Rattle.policy_core.specs.Judgement.{admitted, decided, entry_by, form_by, judged}
 use Rattle.policy_core.specs.declared.answer.Accepted.{Accepted}
 use Rattle.policy_core.specs.declared.answer.By.{By}
@@ -165,6 +165,7 @@ pub record IsSignOf (h : HashFunction) (entries : List Text) (a : Accepted) (ste
 pub sign_of : (h : HashFunction) (entries : List Text) (a : Accepted) (step : Step)
     → is_sign_of a step ≡ true → IsSignOf h entries a step
 sign_of h entries a (Advance size root proof) e = absurd cc
+sign_of h entries a (Child child low) e = absurd cc
 sign_of h entries a (Sign index start end hash proof) e =
     let one = and_parts (start == a.start) _ e in
     let two = and_parts (end == a.end) _ one.1 in

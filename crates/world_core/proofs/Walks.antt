@@ -1,6 +1,6 @@
 -- From a Sign to the list of entries that underlies it.
-use Rattle.std.proofs.Common.{◌≡◌, ℕ, ◌+◌, ◌-◌, ◌<◌, ◌≤◌, Bool, true, List, length, get_or}
-use Rattle.std.proofs.Common.{take, drop, Ok, Err, sym, ap, subst, ◌∙◌, arith}
+use Rattle.std.proofs.Common.{◌≡◌, ℕ, ◌+◌, ◌<◌, ◌≤◌, Bool, true, List, length, get_or}
+use Rattle.std.proofs.Common.{take, Ok, Err, sym, ap, subst, ◌∙◌, arith}
 use Rattle.std.proofs.Common.{inl, inr}
 use Rattle.std.specs.Prelude.{Result, IfOk, IsTrue, bytes_eq}
 use Rattle.std.specs.List.{Contains}
@@ -21,12 +21,13 @@ use Rattle.collide.specs.Inputs.{inputs_of, open_inputs_of}
 use Rattle.collide.specs.declared.finding.Finding.{Finding}
 use Rattle.collide.specs.declared.finding.Finding.TheVariants.{Pair, Same}
 use Rattle.collide.proofs.Compared.{collision_widened}
-use Rattle.cosigner_steps.specs.Steps.{AreSteps, HasPrefix, IsOfList, IsWithin, Shows}
+use Rattle.cosigner_steps.specs.Steps.{AreSteps, HasPrefix, IsOfList, Shows}
 use Rattle.cosigner_steps.specs.Steps.{prefix_inputs}
 use Rattle.cosigner_steps.specs.Steps.{held_by_first, held_by, proof_inputs, held_sizes}
 use Rattle.cosigner_steps.proofs.Holding.{advance_at, found_at, nothing_held, sign_checked}
 use Rattle.cosigner_steps.proofs.Holding.{size_there}
-use Rattle.cosigner_steps.proofs.Steps.{held_advance, held_sign, inputs_at, prefix_at, size_at}
+use Rattle.cosigner_steps.proofs.Steps.{KeepsHeld, held_advance, held_same, inputs_at, prefix_at}
+use Rattle.cosigner_steps.proofs.Steps.{size_at}
 
 -- ---- steps
 
@@ -189,15 +190,13 @@ advance_found h es steps k size root proof given before are below is apart prefi
     proof) y) held two in
     inputs_at h (first_progress h) steps k (Advance size root proof) y below is three) e.1
 
--- after a Sign the list begins with what it began with before
-pub not_sign : (h : HashFunction) (es : List Text) (steps : List Step)
-    (k index start end : ℕ) (hash : Hash) (proof : List Hash) → k < length steps
-    → Sign index start end hash proof ≡ get_or steps k (Sign index start end hash proof)
+-- after any other step the list begins with what it began with before
+pub not_same : (h : HashFunction) (es : List Text) (steps : List Step) (k : ℕ) (s : Step)
+    → KeepsHeld s → k < length steps → s ≡ get_or steps k s
     → (HasPrefix h es (held_by_first h steps k) → ⊥)
     → HasPrefix h es (held_by_first h steps (k + 1)) → ⊥
-not_sign h es steps k index start end hash proof below is apart prefix =
-    apart (subst (HasPrefix h es) (held_sign h steps k index start end hash proof below is)
-    prefix)
+not_same h es steps k s keeps below is apart prefix =
+    apart (subst (HasPrefix h es) (held_same h steps k s keeps below is) prefix)
 
 -- ---- at a Sign
 

@@ -15,7 +15,7 @@ use Rattle.entry_list.specs.Items.{ItemLists}
 use Rattle.mtc_proof.specs.Proofs.{ProofParts}
 use Rattle.mtc_proof.specs.Reading.{proof_in}
 use Rattle.cosigner_core.specs.declared.step.Step.{Step}
-use Rattle.cosigner_core.specs.declared.step.Step.TheVariants.{Advance, Sign}
+use Rattle.cosigner_core.specs.declared.step.Step.TheVariants.{Advance, Child, Sign}
 use Rattle.policy_core.specs.Counting.{is_in_set}
 use Rattle.policy_core.specs.Judgement.{entry_by, judged}
 use Rattle.policy_core.specs.declared.answer.Accepted.{Accepted}
@@ -103,6 +103,7 @@ is_counted store set e = some_index (is_counted_as set e.cosigner e.public) 0 st
 -- A Sign of the accepted interval, with its hash.
 abbrev pub is_sign_of : Accepted → Step → Bool
 is_sign_of a (Advance size root proof) = false
+is_sign_of a (Child child low) = false
 is_sign_of a (Sign index start end hash proof) =
     (start == a.start) && ((end == a.end) && bytes_eq hash a.hash)
 

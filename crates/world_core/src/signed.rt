@@ -24,7 +24,7 @@ fn is_of_list<H: TreeHash>(entries: &Entries<'_>, step: &Step) -> bool
     ensures { IsTrue result ↔ IsOfList H.hash entries.now step.now }
 {
     match step {
-        Step::Advance { .. } => true,
+        Step::Advance { .. } | Step::Child { .. } => true,
         Step::Sign {
             start,
             end,
@@ -85,7 +85,7 @@ fn at_advance<H: TreeHash>(
             &before.root,
             proof.as_slice(),
         ),
-        Step::Sign { .. } => unreachable!(),
+        Step::Sign { .. } | Step::Child { .. } => unreachable!(),
     }
 }
 
@@ -108,7 +108,7 @@ fn at_sign<H: TreeHash>(
 {
     let held = held_by::<H>(&steps[..place]);
     match step {
-        Step::Advance { .. } => unreachable!(),
+        Step::Advance { .. } | Step::Child { .. } => unreachable!(),
         Step::Sign {
             start,
             end,

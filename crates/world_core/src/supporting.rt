@@ -43,7 +43,7 @@ fn is_sign_of(accepted: &Accepted, step: &Step) -> bool
     ensures { result ≡ is_sign_of accepted.now step.now }
 {
     match step {
-        Step::Advance { .. } => false,
+        Step::Advance { .. } | Step::Child { .. } => false,
         Step::Sign {
             start,
             end,

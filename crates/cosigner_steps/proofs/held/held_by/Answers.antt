@@ -1,7 +1,8 @@
 use Rattle.std.proofs.Common.{arith, ap, ◌∙◌}
 use Rattle.std.proofs.Math.Seq.{take-length}
 use Rattle.cosigner_steps.specs.Steps.{held_by}
-use Rattle.cosigner_steps.proofs.Holding.{back_advance, back_none, back_sign, found_at}
+use Rattle.cosigner_steps.proofs.Holding.{back_advance, back_none, back_same, found_at}
+use Rattle.cosigner_steps.proofs.Holding.{not_advance}
 use Rattle.cosigner_steps.proofs.held.held_by.Goals as goal
 
 pub loop-place-init : goal.loop-place-init
@@ -14,10 +15,9 @@ pub loop-place-preserved : goal.loop-place-preserved
 loop-place-preserved g c = record {
   within = omega arith;
   same =
-      back_sign g.H.TreeHash.hash c.args.steps.now c.loop-place.place _ _ _ _ _
-      c.loop-place-test.true c.loop-place.invariant.within
-      (found_at c.args.steps.now _ _ _ c.index-steps-place.is c.in_default.is)
-      c.loop-place.invariant.same;
+      back_same g.H.TreeHash.hash c.args.steps.now c.loop-place.place c.index-steps-place.result
+      (not_advance c.index-steps-place.result c.in_default.not-Advance) c.loop-place-test.true
+      c.loop-place.invariant.within c.index-steps-place.is c.loop-place.invariant.same;
 }
 
 pub returns-in-Advance : goal.returns-in-Advance

@@ -1,14 +1,14 @@
 use Rattle.std.proofs.lemmas.Result.{IfOk-weaker}
-use Rattle.cosigner_steps.proofs.Holding.{found_at}
+use Rattle.cosigner_steps.proofs.Holding.{either_keeps, found_at}
 use Rattle.tree_proofs.proofs.Fulls.{some_in}
-use Rattle.quarrel_core.proofs.Carries.{advance_carries, advance_grows, sign_carries}
+use Rattle.quarrel_core.proofs.Carries.{advance_carries, advance_grows, same_carries}
 use Rattle.quarrel_core.proofs.carrying.onward.Goals as goal
 
 pub returns-in-Sign : goal.returns-in-Sign
 returns-in-Sign g c =
-    sign_carries g.H.TreeHash.hash c.args.steps.now c.args.place c.args.start c.args.end
-    c.args.node.now c.args.held.now c.args.proof _ _ _ _ _ c.requires.within
-    (found_at c.args.steps.now _ _ _ c.index-steps-place.is c.in-Sign.is)
+    same_carries g.H.TreeHash.hash c.args.steps.now c.args.place c.args.start c.args.end
+    c.args.node.now c.args.held.now c.args.proof c.index-steps-place.result
+    (either_keeps c.index-steps-place.result c.in-Sign.is) c.requires.within c.index-steps-place.is
     c.requires.held c.requires.carried
 
 pub join-requires-clause-order : goal.join-requires-clause-order

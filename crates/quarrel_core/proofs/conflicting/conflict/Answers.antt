@@ -2,7 +2,7 @@ use Rattle.std.proofs.Common.{◌≡◌, ℕ, ◌<◌, ◌&&◌, cond, eqb, leng
 use Rattle.std.proofs.Common.{arith}
 use Rattle.cosigner_core.specs.declared.step.Step.{Step}
 use Rattle.cosigner_steps.proofs.Holding.{found_at}
-use Rattle.quarrel_core.proofs.Seeking.{IsSought, sought_advance, sought_found, sought_last}
+use Rattle.quarrel_core.proofs.Seeking.{IsSought, sought_found, sought_last, sought_other}
 use Rattle.quarrel_core.proofs.Seeking.{sought_sign}
 use Rattle.quarrel_core.specs.Conflicts.{conflicts}
 use Rattle.quarrel_core.specs.Firsts.{first_sign_in}
@@ -11,9 +11,8 @@ use Rattle.quarrel_core.proofs.conflicting.conflict.Goals as goal
 pub loop-place-preserved-in_default : goal.loop-place-preserved-in_default
 loop-place-preserved-in_default c =
     let below : c.loop-place.place < length c.args.steps.now = omega arith in
-    sought_advance c.args.steps.now c.loop-place.place (first_sign_in c.loop-place.firsts)
-    c.in_default.field-0 c.in_default.field-1 c.in_default.field-2 below
-    (sym (found_at c.args.steps.now c.loop-place.place _ _ c.index-steps-place.is c.in_default.is))
+    sought_other c.args.steps.now c.loop-place.place (first_sign_in c.loop-place.firsts)
+    c.index-steps-place.result c.in_default.not-Sign below (sym c.index-steps-place.is)
     c.loop-place.invariant
 
 pub returns-then-are_in_conflict : goal.returns-then-are_in_conflict

@@ -1,8 +1,5 @@
-use Rattle.std.proofs.Common.{◌≡◌}
-use Rattle.std.proofs.lemmas.Result.{IfOk-weaker}
 use Rattle.quarrel_core.proofs.JoiningCases.{turned_back}
 use Rattle.quarrel_core.proofs.Joins.{joins_if_checked}
-use Rattle.quarrel_core.specs.Joining.{joined_of}
 use Rattle.quarrel_core.proofs.joining.join.Goals as goal
 
 pub returns-clause-exact : goal.returns-clause-exact

@@ -1,20 +1,18 @@
 use Rattle.std.proofs.Common.{arith}
 use Rattle.cosigner_steps.proofs.Holding.{found_at}
 use Rattle.quarrel_core.proofs.Verdicts.{conflict_indices, conflict_steps, first_carried}
-use Rattle.quarrel_core.proofs.Verdicts.{first_no_advance, second_carried, second_no_advance}
+use Rattle.quarrel_core.proofs.Verdicts.{first_signs, second_carried, second_signs}
 use Rattle.quarrel_core.proofs.quarrelling.pair_between.Goals as goal
 
 pub unreachable-requires : goal.unreachable-requires
 unreachable-requires g c =
-    first_no_advance c.args.steps.now c.args.one c.args.other c.index-steps-one.result
-    c.in_default.field-0 c.in_default.field-1 c.in_default.field-2 c.requires.conflict
-    c.index-steps-one.is c.in_default.is
+    first_signs c.args.steps.now c.args.one c.args.other c.index-steps-one.result
+    c.requires.conflict c.index-steps-one.is c.in_default.not-Sign
 
 pub unreachable-requires-in_default-steps : goal.unreachable-requires-in_default-steps
 unreachable-requires-in_default-steps g c =
-    second_no_advance c.args.steps.now c.args.one c.args.other c.index-steps-other.result
-    c.in_default-steps.field-0 c.in_default-steps.field-1 c.in_default-steps.field-2
-    c.requires.conflict c.index-steps-other.is c.in_default-steps.is
+    second_signs c.args.steps.now c.args.one c.args.other c.index-steps-other.result
+    c.requires.conflict c.index-steps-other.is c.in_default-steps.not-Sign
 
 pub pair_of-requires-clause-order : goal.pair_of-requires-clause-order
 pair_of-requires-clause-order g c =

@@ -1,9 +1,9 @@
 use Rattle.std.proofs.Common.{length, subst, sym}
 use Rattle.tree_core.specs.Tree.{tree_hash}
 use Rattle.tree_proofs.specs.Consistency.{Checks}
-use Rattle.cosigner_steps.proofs.Holding.{found_at}
+use Rattle.cosigner_steps.proofs.Holding.{either_keeps, found_at}
 use Rattle.world_core.proofs.Walks.{advance_found, advance_ready, advance_within, found_of}
-use Rattle.world_core.proofs.Walks.{not_sign, ok_still}
+use Rattle.world_core.proofs.Walks.{not_same, ok_still}
 use Rattle.world_core.proofs.signed.at_advance.Goals as goal
 
 pub prefix-requires : goal.prefix-requires
@@ -26,10 +26,9 @@ in_consistency-requires g c =
 
 pub unreachable-requires : goal.unreachable-requires
 unreachable-requires g c =
-    not_sign g.H.TreeHash.hash c.args.entries.now c.args.steps.now c.args.place c.in-Sign.index
-    c.in-Sign.start c.in-Sign.end c.in-Sign.hash c.in-Sign.proof c.requires.within
-    (found_at c.args.steps.now c.args.place _ _ c.index-steps-place.is c.in-Sign.is)
-    c.requires.apart c.requires.next
+    not_same g.H.TreeHash.hash c.args.entries.now c.args.steps.now c.args.place
+    c.index-steps-place.result (either_keeps c.index-steps-place.result c.in-Sign.is)
+    c.requires.within c.index-steps-place.is c.requires.apart c.requires.next
 
 pub returns : goal.returns
 returns g c =
