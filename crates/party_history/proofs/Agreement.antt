@@ -1,12 +1,13 @@
 -- The rules of a history and those of the journals are the same.
 use Rattle.std.proofs.Common.{◌≡◌, inl, inr, ℕ, ◌==◌, true, false, List, [], ◌∷◌, ◌++◌, Some, None}
 use Rattle.std.proofs.Common.{IfSome, Result, Ok, Err, is_ok, refl, ap, sym, ◌∙◌, subst}
-use Rattle.std.proofs.Common.{option_and_then, arith}
+use Rattle.std.proofs.Common.{option_and_then}
 use Rattle.std.proofs.lemmas.Bool.{eqb-true}
 use Rattle.std.proofs.lemmas.Option.{IfSome_then}
-use Rattle.std.specs.Prelude.{IsOk}
+use Rattle.std.specs.Prelude.{IsOk, if◌then◌else◌}
 use Rattle.byte_formats.specs.Types.{HashFunction, Text}
 use Rattle.byte_formats.specs.Offsets.{At, at}
+use Rattle.byte_formats.specs.Readings.{whole_of}
 use Rattle.byte_formats.proofs.Values.{then_some, when_some}
 use Rattle.tls_wire.specs.Reading.{number_at}
 use Rattle.tls_wire.specs.declared.cursor.Short.{Short}
@@ -19,19 +20,20 @@ use Rattle.issuance_log.specs.Folds.{LogState, log_fold, log_of}
 use Rattle.issuance_log.specs.Records.{settings_at, settings_in, log_settings_with, tagged}
 use Rattle.issuance_log.specs.Settings.{Settings}
 use Rattle.issuance_log.proofs.After as logs
-use Rattle.cosigner_core.specs.Counts.{AreCounted}
 use Rattle.cosigner_core.specs.Folds.{cosigner_fold, cosigner_of}
 use Rattle.cosigner_core.specs.Progress.{progress_by, progress_in, steps_in}
-use Rattle.cosigner_core.specs.Records.{cosigner_in, first_by_tag}
+use Rattle.cosigner_core.specs.Records.{cosigner_at, cosigner_in, first_by_tag, founded}
 use Rattle.cosigner_core.specs.declared.settings.CosignerSettings.{CosignerSettings}
 use Rattle.cosigner_core.proofs.After as cosigners
 use Rattle.hss_keys.specs.Keys.{public_of, signing_key}
+use Rattle.party_history.specs.KeyUses.{UseKeysInOrder}
 use Rattle.party_history.specs.Laws.{IsSoundParty}
 use Rattle.party_history.specs.Parties.{HistoryState}
 use Rattle.party_history.specs.Rules.{AreRecords, IsReadAs, StartsWith, may_follow}
 use Rattle.party_history.specs.declared.start.PartyStart.{PartyStart}
 use Rattle.party_history.specs.declared.start.PartyStart.TheVariants.{Log, Cosigner}
 use Rattle.party_history.proofs.Chains.{no_some}
+use Rattle.party_history.proofs.Keys.{keys_in_order}
 
 -- no record at all follows each start
 pub alone : (h : HashFunction) (start : PartyStart) → may_follow h start [] ≡ true
@@ -52,8 +54,10 @@ apart first s x = by_tag (number_at w8 (at first 0))
     by_tag (Ok tag) log cosigner =
         let some = then_some log_settings_with (tagged 1 settings_at (Ok tag)) s log in
         let one = when_some (tag.0 == 1) _ some.0 some.1 in
-        let two = when_some (tag.0 == 17) _ x cosigner in
-        absurd (omega (arith, eqb-true tag.0 1 one.0, eqb-true tag.0 17 two.0))
+        no_some x (sym (ap (λ (n : ℕ).
+        if n == 17 then option_and_then founded (whole_of (cosigner_at false tag.1))
+        else (if n == 21 then option_and_then founded (whole_of (cosigner_at true tag.1))
+        else None)) (eqb-true tag.0 1 one.0)) ∙ cosigner)
 
 -- ---- valid records
 
@@ -87,7 +91,7 @@ starts_so h first bodies (inr is) =
     let found = first_of_cosigner h first bodies is in
     let s = found.0.0 in
     let secret = found.0.1 in (
-      Cosigner s (public_of (signing_key s.lms None s.ots secret)),
+      Cosigner s (public_of (signing_key s.lms s.low s.ots secret)),
       (secret, (found.1, refl)),
     )
 
@@ -139,19 +143,20 @@ read h (Cosigner settings public) first bodies bytes starts may stands =
 
 -- ---- one-time keys
 
-of_valid : (h : HashFunction) (start : PartyStart) (settings : CosignerSettings) (public : Text)
-    (bodies : List Text) → start ≡ Cosigner settings public → may_follow h start bodies ≡ true
-    → AreCounted bodies
-of_valid h start settings public bodies is may =
+pub keys_of_valid : (h : HashFunction) (start : PartyStart) (settings : CosignerSettings)
+    (public : Text) (bodies : List Text) → start ≡ Cosigner settings public
+    → may_follow h start bodies ≡ true → UseKeysInOrder settings bodies
+keys_of_valid h start settings public bodies is may =
     let same : may_follow h (Cosigner settings public) bodies ≡ true
     = subst (λ (s : PartyStart). may_follow h s bodies ≡ true) is may in
-    cosigners.once_each h settings bodies same
+    keys_in_order h settings bodies same
 
 pub once_used : (h : HashFunction) (s : HistoryState) (settings : CosignerSettings)
     (public : Text) → IsSoundParty (may_follow h) s → s.start ≡ Cosigner settings public
-    → AreCounted s.durable × IfSome s.pending (λ body. AreCounted (s.durable ++ body ∷ []))
+    → UseKeysInOrder settings s.durable
+    × IfSome s.pending (λ body. UseKeysInOrder settings (s.durable ++ body ∷ []))
 once_used h s settings public sound is = (
-  of_valid h s.start settings public s.durable is sound.durable,
+  keys_of_valid h s.start settings public s.durable is sound.durable,
   IfSome_then s.pending sound.pending (λ body.
-      of_valid h s.start settings public (s.durable ++ body ∷ []) is),
+      keys_of_valid h s.start settings public (s.durable ++ body ∷ []) is),
 )

@@ -1,5 +1,5 @@
 -- A cosigner keeps the ids and the key with which it began, and a Sign adds its number.
-use Rattle.std.proofs.Common.{◌≡◌, ℕ, ◌+◌, Bool, List, [], ◌∷◌, ◌++◌, arith, ◌≤◌, ◌^◌}
+use Rattle.std.proofs.Common.{◌≡◌, ℕ, Bool, List, [], ◌∷◌, ◌++◌, arith, ◌≤◌, ◌^◌}
 use Rattle.std.proofs.Common.{None, Some, Ok, sym, ap, ◌∙◌}
 use Rattle.std.proofs.Common.{append_assoc, length}
 use Rattle.std.proofs.lemmas.Grind.{flat_map-append}
@@ -9,7 +9,6 @@ use Rattle.hss_keys.specs.Keys.{public_of}
 use Rattle.journal_core.specs.Folds.{state_after}
 use Rattle.journal_core.proofs.Folds.{state_more}
 use Rattle.tls_wire.specs.Encoding.{vector}
-use Rattle.cosigner_core.specs.Counts.{index_before, indices_in, indices_of}
 use Rattle.cosigner_core.specs.Exports.{export_text, prefix_text, records_text}
 use Rattle.cosigner_core.specs.Folds.{CosignerState, cosigner_fold, key_count}
 use Rattle.cosigner_core.specs.Folds.{cosigner_of}
@@ -24,7 +23,6 @@ use Rattle.cosigner_core.proofs.After.{no_cosigner}
 use Rattle.cosigner_core.proofs.Names.{Began, began_first, same_cosigner}
 use Rattle.party_history.specs.Rules.{StartsWith}
 use Rattle.party_history.specs.declared.start.PartyStart.TheVariants.{Cosigner}
-use Rattle.party_history.proofs.Keys.{indices_append}
 
 -- the ids and the key of a cosigner are those of its first record
 pub of_first : (h : HashFunction) (settings : CosignerSettings) (public first : Text)
@@ -73,14 +71,3 @@ sign_read h s r broken end few fits is =
       sized = fits.hash;
       all_hashes = fits.proof;
     })
-
--- a Sign adds its number to those before it
-pub number_added : (h : HashFunction) (list : List Text) (s : CosignerState) (body : Text)
-    (index start end : ℕ) (hash : Text) (proof : List Text) → cosigner_of h list ≡ Ok s
-    → step_in body ≡ Some (Sign index start end hash proof)
-    → indices_of (list ++ body ∷ []) ≡ indices_of list ++ index ∷ []
-unfolding indices_of indices_in state_after
-number_added h [] s body index start end hash proof made is = absurd (no_cosigner 0 s made)
-number_added h (first ∷ bodies) s body index start end hash proof made is =
-    indices_append bodies (body ∷ [])
-    ∙ ap (λ o. indices_in bodies ++ index_before o []) is

@@ -1,6 +1,7 @@
 pub mod Parties
 pub mod Histories
 pub mod Rules
+pub mod KeyUses
 pub mod Laws
 pub mod Journals
 pub mod Results

@@ -1,5 +1,5 @@
 -- The rules of the records of logs and cosigners, by what begins them.
-use Rattle.std.specs.Prelude.{◌≡◌, ◌⊎◌, Bool, List, Some, Ok, IsOk, None}
+use Rattle.std.specs.Prelude.{◌≡◌, ◌⊎◌, Bool, List, Some, Ok, IsOk}
 use Rattle.byte_formats.specs.Types.{Text, HashFunction}
 use Rattle.cosigner_core.specs.Folds.{CosignerState, cosigner_of}
 use Rattle.cosigner_core.specs.Openings.{cosigner_read}
@@ -16,7 +16,7 @@ use Rattle.party_history.specs.declared.start.PartyStart.TheVariants.{Log, Cosig
 abbrev pub may_follow : HashFunction → PartyStart → List Text → Bool
 may_follow h (Log settings) bodies = may_follow_log h settings bodies
 may_follow h (Cosigner settings public) bodies =
-    may_follow_cosigner h (terms_of settings.lms None) bodies
+    may_follow_cosigner h (terms_of settings.lms settings.low) bodies
 
 -- The first record of a party's journal says how it began: the settings of a log, or the settings
 -- of a cosigner and a secret, to which its public key belongs.
@@ -24,7 +24,7 @@ abbrev pub StartsWith : PartyStart → Text → Type 0
 StartsWith (Log settings) first = settings_in first ≡ Some settings
 StartsWith (Cosigner settings public) first = (secret : Text)
     × ((cosigner_in first ≡ Some (settings, secret))
-    × (public_of (signing_key settings.lms None settings.ots secret) ≡ public))
+    × (public_of (signing_key settings.lms settings.low settings.ots secret) ≡ public))
 
 -- A journal may hold these records: they make a log or a cosigner.
 abbrev pub AreRecords : HashFunction → List Text → Type 0

@@ -3,7 +3,6 @@
 ghost use Rattle.std.specs.Prelude.{◌≡◌, ℕ, ◌+◌, true, List, [], ◌∷◌, ◌++◌, length, slice_get};
 ghost use Rattle.std.specs.Prelude.{Some, IfSome, Contains, Ok};
 ghost use Rattle.byte_formats.specs.Types.{HashFunction, Text};
-ghost use Rattle.cosigner_core.specs.Counts.{AreCounted};
 ghost use Rattle.cosigner_core.specs.declared.settings.CosignerSettings.{CosignerSettings};
 ghost use Rattle.journal_core.specs.Format.{Represents};
 ghost use Rattle.file_events.specs.Histories.{ReachesAll, TakesSteps};
@@ -11,6 +10,7 @@ ghost use Rattle.issuance_log.specs.Folds.{LogState, log_of};
 ghost use Rattle.issuance_log.specs.Records.{added_items, item_in, switch_record};
 ghost use Rattle.party_history.specs.Histories.{history_of, moved};
 ghost use Rattle.party_history.specs.Journals.{Continues, HasHistory};
+ghost use Rattle.party_history.specs.KeyUses.{UseKeysInOrder};
 ghost use Rattle.party_history.specs.Laws.{HasGrown, HasItemAt, IsOfDurable, IsSoundParty};
 ghost use Rattle.party_history.specs.Laws.{KeepsItems, LeadsTo, WerePending};
 ghost use Rattle.party_history.specs.Parties.{HistoryState, fresh_party, party_of_step};
@@ -58,13 +58,15 @@ pub fn law_histories_continue()
         → LeadsTo (valid h) starts (steps ++ step ∷ []) place t }
 {}
 
-/// In no history two records of a cosigner have the number of the same one-time key, the pending
-/// record among them: the i-th Sign record, counted from 0, has the number i.
+/// In no history two records of a cosigner use the same one-time key, the pending record among
+/// them: the i-th Sign record, counted from 0, has the number i, and the c-th Child record has the
+/// number c. With two levels, each Sign uses a key of a lower tree whose Child record is before it.
 pub fn law_one_time_keys_are_used_once()
     ensures { (h : HashFunction) (starts : List PartyStart) (steps : List PartyStep) (place : ℕ)
         (s : HistoryState) (settings : CosignerSettings) (public : Text)
         → LeadsTo (valid h) starts steps place s → s.start ≡ Cosigner settings public
-        → AreCounted s.durable × IfSome s.pending (λ body. AreCounted (s.durable ++ body ∷ [])) }
+        → UseKeysInOrder settings s.durable
+        × IfSome s.pending (λ body. UseKeysInOrder settings (s.durable ++ body ∷ [])) }
 {}
 
 /// Bodies may follow the first record of a party's journal exactly if a history may begin them, and

@@ -13,7 +13,7 @@ use tls_wire::AnchorId;
 pub enum PartyStart {
     /// A log with these settings.
     Log(LogSettings),
-    /// A cosigner with these settings and this public key.
+    /// A cosigner with these settings, of one level or of two, and this public key.
     Cosigner {
         settings: CosignerSettings,
         public: [u8; 60],
@@ -43,6 +43,7 @@ impl PartyStart {
                     id: copy_of(alloc, &settings.id)?,
                     log: copy_of(alloc, &settings.log)?,
                     lms: settings.lms,
+                    low: settings.low,
                     ots: settings.ots,
                 },
                 public: *public,
