@@ -1,5 +1,5 @@
 -- Lists of records, and what one event leaves of them.
-use Rattle.std.proofs.Common.{◌≡◌, inl, inr, Bool, List, [], ◌∷◌, ◌++◌, None, Some, sym, ap, subst}
+use Rattle.std.proofs.Common.{◌≡◌, inl, inr, Bool, List, [], ◌∷◌, ◌++◌, Some, sym, ap, subst}
 use Rattle.std.proofs.Common.{◌∙◌, append_assoc, take}
 use Rattle.std.proofs.lemmas.List.{append-nil}
 use Rattle.std.proofs.lemmas.Option.{none-some, same_Some}

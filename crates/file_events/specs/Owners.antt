@@ -15,12 +15,12 @@ use Rattle.file_events.specs.Tiles.{elsewhere as none_of_log}
 use Rattle.file_events.specs.Works.{LeavesAll, journal_work, tiles_work}
 use Rattle.file_events.specs.Worlds.{LeavesStopped, IsFileExecution, FileEvent, FileOwner, Program}
 use Rattle.file_events.specs.Worlds.{Run, all_states, broke_off, done_to, event_with, own_events}
-use Rattle.file_events.specs.Worlds.{EachRun, heard_of, states_between, states_of}
+use Rattle.file_events.specs.Worlds.{EachRun, IsOneFile, heard_of, states_between, states_of}
 
 module _ (p : Program) where
-  -- What a run did with the journal of a name.
+  -- What a run did with the journal of a name's place.
   abbrev pub did_to : Text → p.R → Run p.R p.O p.E → Journaled
-  did_to name old run = done_to (p.journals old run) name
+  did_to name old run = done_to p.rooms.leads_to (p.journals old run) name
 
   -- Where the files are modelled they are so after a run, and a crash leaves something of each.
   pub record KeepsRooms : Type 0 where
@@ -49,7 +49,7 @@ module _ (p : Program) (Valid : List Text → Type 0) (name : Text) where
 
   abbrev pub journal_file : FileOwner p
   journal_file = record {
-    Own = λ n. n ≡ name;
+    Own = λ n. IsOneFile p n name;
     EventOf = Event;
     LeadsTo = λ event old new. Leads Valid event (states_of p name old) (states_of p name new);
     none = elsewhere;
@@ -101,7 +101,7 @@ module _ (p : Program) (goes : List Text → Text → Type 0) (Plain : List Text
   -- A stop in the middle of a run is a kill, and then a stop.
   abbrev pub log_files : FileOwner p
   log_files = record {
-    Own = λ n. (n ≡ name) ⊎ (n ≡ tiles);
+    Own = λ n. IsOneFile p n name ⊎ IsOneFile p n tiles;
     EventOf = LogEvent;
     LeadsTo = LeadsLog goes Plain Valid (states_of p name) (states_of p tiles);
     none = none_of_log;
@@ -144,7 +144,7 @@ module _ (p : Program) (agrees : List Text → List Text → Type 0)
     (ValidMirror ValidCosigner : List Text → Type 0) (mirror cosigner : Text) where
   abbrev pub mirror_files : FileOwner p
   mirror_files = record {
-    Own = λ n. (n ≡ mirror) ⊎ (n ≡ cosigner);
+    Own = λ n. IsOneFile p n mirror ⊎ IsOneFile p n cosigner;
     EventOf = MirrorEvent;
     LeadsTo = LeadsMirror agrees Computed Neutral ValidMirror ValidCosigner
         (states_of p mirror) (states_of p cosigner);

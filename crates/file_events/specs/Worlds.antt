@@ -2,10 +2,10 @@
 -- runs that are killed, and with other files that change: which event each of these is.
 use Rattle.std.specs.Prelude.{◌≡◌, ℕ, nat_lt, ◌==◌, ◌||◌, ◌&&◌, not, Bool, List, [], ◌∷◌, length}
 use Rattle.std.specs.Prelude.{Option, None, Some, IfSome, if◌then◌else◌}
-use Rattle.std.specs.Str.{bytes_eq}
 use Rattle.byte_formats.specs.Types.{Text}
 use Rattle.disk_core.specs.declared.disk.Disk.{Ghosts as Disks}
 use Rattle.mtc_io.specs.declared.sink.Sink.{Ghosts as Sinks}
+use Rattle.mtc_room.specs.Places.{is_one_place, place_of}
 use Rattle.mtc_room.specs.Room.{Stays}
 use Rattle.mtc_room.specs.declared.room.Room.{Ghosts as Rooms}
 use Rattle.file_events.specs.Events.{CrashStates, Event, Journaled, broke, ran, untouched}
@@ -62,11 +62,11 @@ event_with broken heard did = if broken then broke did else ran heard did
 abbrev pub Journals : Type 0
 Journals = List (Text × Journaled)
 
--- What is done with the journal of a name.
-abbrev pub done_to : Journals → Text → Journaled
-done_to [] name = untouched
-done_to (journal ∷ rest) name =
-    if bytes_eq journal.0 name then journal.1 else done_to rest name
+-- What is done with the journal of a name's place.
+abbrev pub done_to : (Text → Text) → Journals → Text → Journaled
+done_to leads_to [] name = untouched
+done_to leads_to (journal ∷ rest) name =
+    if is_one_place leads_to journal.0 name then journal.1 else done_to leads_to rest name
 
 -- ---- a program
 
@@ -103,6 +103,10 @@ pub data FileEvent (R O E : Type 0) : Type 0 where
   writes : R → FileEvent R O E
 
 module _ (p : Program) where
+  -- The names are of one file: they have one place.
+  abbrev pub IsOneFile : Text → Text → Type 0
+  IsOneFile one other = place_of p.rooms.leads_to one ≡ place_of p.rooms.leads_to other
+
   -- What a crash may leave of the file of a name.
   abbrev pub states_of : Text → p.R → CrashStates
   states_of name room = states_at p.disks (p.rooms.device room name)

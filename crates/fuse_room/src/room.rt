@@ -96,13 +96,15 @@ impl Room for FuseRoom {
     ghost use Rattle.mtc_room.specs.declared.cause.Cause.TheVariants.{Failed};
     ghost use Rattle.fuse_room.specs.Fused.{fused, fuse_in, failures, passes_under, inner_room};
     ghost use Rattle.fuse_room.specs.Fused.{StopsAlike};
-    ghost use Rattle.fuse_room.specs.FusedLaws.{modelled_fuse};
+    ghost use Rattle.fuse_room.specs.FusedLaws.{modelled_fuse, one_fuse};
 
     type Src = MemSource;
 
     type Dsk = Fuse<MemDisk>;
 
     ghost is_modelled = { λ _. ⊤ };
+
+    ghost leads_to = { λ path. path };
 
     ghost file = { λ r. bytes_in (inner_room r) };
 
@@ -115,6 +117,8 @@ impl Room for FuseRoom {
     ghost why = { λ _. Failed };
 
     ghost modelled_file = { λ m name _. modelled_fuse (disk_in (inner_room m) name) };
+
+    ghost one_device = { λ m one other _ same. one_fuse m one other same };
 
     fn source(&mut self, name: &str) -> Result<MemSource, RoomError>
         requires { (state (inner_room self.old)).opened < 2 ^ 32 }
@@ -161,7 +165,7 @@ impl Room for FuseRoom {
         requires { (state (inner_room self.old)).opened < 2 ^ 32 }
         ensures opens { Opens (state (inner_room self.old)).opened
             (state (inner_room self.new)).opened (failures self.old) (failures self.new) result }
-        ensures files { LeavesOthers ⊤ ⊤ (bytes_in (inner_room self.old))
+        ensures files { LeavesOthers ⊤ ⊤ (λ path. path) (bytes_in (inner_room self.old))
             (bytes_in (inner_room self.new)) (fuse_in self.old) (fuse_in self.new) name.now
             result }
         ensures only { MakesOnly ⊤ (bytes_in (inner_room self.old) name.now)
@@ -180,7 +184,7 @@ impl Room for FuseRoom {
         requires { (state (inner_room self.old)).opened < 2 ^ 32 }
         ensures opens { OpensOrFails (state (inner_room self.old)).opened
             (state (inner_room self.new)).opened (failures self.old) (failures self.new) result }
-        ensures files { LeavesOthers ⊤ ⊤ (bytes_in (inner_room self.old))
+        ensures files { LeavesOthers ⊤ ⊤ (λ path. path) (bytes_in (inner_room self.old))
             (bytes_in (inner_room self.new)) (fuse_in self.old) (fuse_in self.new) name.now
             result }
         ensures kept { ⊤ → IsSome (bytes_in (inner_room self.old) name.now)
@@ -220,7 +224,7 @@ impl Room for FuseRoom {
             ≡ (state (inner_room self.old)).opened }
         ensures count { failures self.new ≡ with_count (failures self.old)
             (⟦<Fuse<MemDisk> as Disk>⟧.faults disk) }
-        ensures others { OthersStay (bytes_in (inner_room self.old))
+        ensures others { OthersStay (λ path. path) (bytes_in (inner_room self.old))
             (bytes_in (inner_room self.new)) (fuse_in self.old) (fuse_in self.new) name.now }
         ensures is_modelled { ⊤ → ⊤ }
         ensures none { ⊤ → bytes_in (inner_room self.old) name.now ≡ None

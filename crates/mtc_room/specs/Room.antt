@@ -1,12 +1,13 @@
 -- What the calls of a file system do. The files of a file system are a function from names to
 -- bytes, and one from names to devices.
-use Rattle.std.specs.Prelude.{◌≡◌, ◌≢◌, ℕ, ◌+◌, ◌≤◌, [], Option, None, Some, Result, is_ok}
+use Rattle.std.specs.Prelude.{◌≡◌, ◌≢◌, ℕ, ◌+◌, ◌≤◌, Option, None, Some, Result, is_ok, []}
 use Rattle.std.specs.Prelude.{IsSome, IsErrOf, OnErr, OnOk, if◌then◌else◌}
 use Rattle.std.specs.Option.{IsSomeAnd}
 use Rattle.byte_formats.specs.Types.{Text}
 use Rattle.disk_core.specs.Same.{SameDevice}
 use Rattle.disk_core.specs.declared.disk.Disk.{Ghosts}
 use Rattle.mtc_io.specs.Counts.{Rose, HasCause}
+use Rattle.mtc_room.specs.Places.{place_of}
 use Rattle.mtc_room.specs.declared.error.RoomError.{RoomError}
 use Rattle.mtc_room.specs.declared.error.RoomError.TheVariants.{Absent, Exists, Failed}
 
@@ -39,11 +40,11 @@ abbrev pub AllStay : {D : Type 0} → (Text → Option Text) → (Text → Optio
     → (Text → Option D) → (Text → Option D) → Type 0
 AllStay file file' device device' = (name : Text) → Stays file file' device device' name
 
--- so is each of another name
-abbrev pub OthersStay : {D : Type 0} → (Text → Option Text) → (Text → Option Text)
-    → (Text → Option D) → (Text → Option D) → Text → Type 0
-OthersStay file file' device device' but
-    = (name : Text) → name ≢ but → Stays file file' device device' name
+-- so is each of another place than this name has
+abbrev pub OthersStay : {D : Type 0} → (Text → Text) → (Text → Option Text)
+    → (Text → Option Text) → (Text → Option D) → (Text → Option D) → Text → Type 0
+OthersStay leads_to file file' device device' but = (name : Text)
+    → place_of leads_to name ≢ place_of leads_to but → Stays file file' device device' name
 
 -- there is a file, and what was opened has its bytes
 pub record OpensBytes (file opened : Option Text) : Type 0 where
@@ -57,9 +58,10 @@ ModelsFile contents file (Some d) = (contents d ≡ file) × IsSome file
 
 -- A call that makes the file of this name, or finds it, leaves each other file and device. If it is
 -- refused it leaves this one too.
-pub record LeavesOthers {D T E : Type 0} (Models Models' : Type 0) (file file' : Text → Option Text)
-    (device device' : Text → Option D) (name : Text) (result : Result T E) : Type 0 where
-  pub others : OthersStay file file' device device' name
+pub record LeavesOthers {D T E : Type 0} (Models Models' : Type 0) (leads_to : Text → Text)
+    (file file' : Text → Option Text) (device device' : Text → Option D) (name : Text)
+    (result : Result T E) : Type 0 where
+  pub others : OthersStay leads_to file file' device device' name
   pub err : OnErr result (Stays file file' device device' name)
   pub is_modelled : Models → Models'
 

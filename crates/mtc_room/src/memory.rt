@@ -205,7 +205,7 @@ impl MemRoom {
 impl Room for MemRoom {
     ghost use Rattle.mtc_room.specs.Memory.{state, bytes_in, disk_in, new_file};
     ghost use Rattle.mtc_room.specs.Memory.{CountsOpening, CountsFinding, IsMadeNew};
-    ghost use Rattle.mtc_room.specs.MemoryLaws.{modelled_in};
+    ghost use Rattle.mtc_room.specs.MemoryLaws.{modelled_in, one_disk};
     ghost use Rattle.mtc_room.specs.Room.{Opens, OpensOrFails, Stays, AllStay, OthersStay};
     ghost use Rattle.mtc_room.specs.Room.{LeavesOthers, MakesOnly, IsMadeEmpty, IsFoundOrNew};
     ghost use Rattle.mtc_room.specs.Room.{OpensBytes};
@@ -216,6 +216,8 @@ impl Room for MemRoom {
     type Dsk = MemDisk;
 
     ghost is_modelled = { λ _. ⊤ };
+
+    ghost leads_to = { λ path. path };
 
     ghost file = { bytes_in };
 
@@ -228,6 +230,8 @@ impl Room for MemRoom {
     ghost why = { λ _. Failed };
 
     ghost modelled_file = { λ m name _. modelled_in (disk_in m name) };
+
+    ghost one_device = { λ m one other _ same. one_disk m one other same };
 
     fn source(&mut self, name: &str) -> Result<MemSource, RoomError>
         requires { (state self.old).opened < 2 ^ 32 }
@@ -282,8 +286,8 @@ impl Room for MemRoom {
         requires { (state self.old).opened < 2 ^ 32 }
         ensures opens { Opens (state self.old).opened (state self.new).opened
             (state self.old).faults (state self.new).faults result }
-        ensures files { LeavesOthers ⊤ ⊤ (bytes_in self.old) (bytes_in self.new)
-            (disk_in self.old) (disk_in self.new) name.now result }
+        ensures files { LeavesOthers ⊤ ⊤ (λ path. path) (bytes_in self.old)
+            (bytes_in self.new) (disk_in self.old) (disk_in self.new) name.now result }
         ensures only { MakesOnly ⊤ (bytes_in self.old name.now) (disk_in self.old name.now)
             result }
         ensures new { IfOk result (IsMadeEmpty ⟦<MemDisk as Disk>⟧ ⊤ (bytes_in self.new name.now)
@@ -304,8 +308,8 @@ impl Room for MemRoom {
         requires { (state self.old).opened < 2 ^ 32 }
         ensures opens { OpensOrFails (state self.old).opened (state self.new).opened
             (state self.old).faults (state self.new).faults result }
-        ensures files { LeavesOthers ⊤ ⊤ (bytes_in self.old) (bytes_in self.new)
-            (disk_in self.old) (disk_in self.new) name.now result }
+        ensures files { LeavesOthers ⊤ ⊤ (λ path. path) (bytes_in self.old)
+            (bytes_in self.new) (disk_in self.old) (disk_in self.new) name.now result }
         ensures kept { ⊤ → IsSome (bytes_in self.old name.now)
             → Stays (bytes_in self.old) (bytes_in self.new)
             (disk_in self.old) (disk_in self.new) name.now }
@@ -349,7 +353,7 @@ impl Room for MemRoom {
         ensures out { (state self.new).opened + 1 ≡ (state self.old).opened }
         ensures count { (state self.new).faults
             ≡ with_count (state self.old).faults (faults_of disk) }
-        ensures others { OthersStay (bytes_in self.old) (bytes_in self.new)
+        ensures others { OthersStay (λ path. path) (bytes_in self.old) (bytes_in self.new)
             (disk_in self.old) (disk_in self.new) name.now }
         ensures is_modelled { ⊤ → ⊤ }
         ensures bytes { ⊤ → IsSome (bytes_in self.old name.now)

@@ -9,13 +9,15 @@ use crate::{Cause, RoomError};
 use disk_core::Disk;
 use mtc_io::{Failed, Source};
 
-/// The files that the program may reach, by name.
+/// The files that the program may reach, by name. A file has as many names as paths lead to its
+/// folder.
 pub trait Room {
     ghost use Rattle.mtc_io.specs.Counts.{with_count};
     ghost use Rattle.disk_core.specs.Same.{SameDevice};
     ghost use Rattle.mtc_room.specs.Room.{Opens, OpensOrFails, Stays, AllStay, OthersStay};
     ghost use Rattle.mtc_room.specs.Room.{LeavesOthers, MakesOnly, IsMadeEmpty, IsFoundOrNew};
     ghost use Rattle.mtc_room.specs.Room.{OpensBytes, ModelsFile};
+    ghost use Rattle.mtc_room.specs.Places.{place_of};
     ghost use Rattle.mtc_room.specs.declared.cause.Cause.{Cause};
 
     /// What gives a file's bytes.
@@ -26,6 +28,11 @@ pub trait Room {
 
     /// The model knows the files of the file system. It doesn't know real files.
     ghost is_modelled: { Self → Type 0 };
+
+    /// The folder to which the path of a folder leads. A name has a path, up to its last slash, and
+    /// the name of a file in that folder: these two are its place, and names of one place are of
+    /// one file, as `s` and `./s`. Names of two places are of two files: no link leads to a file.
+    ghost leads_to: { Text → Text };
 
     /// The bytes of each name's file, or none if there is no such file. It says nothing if the
     /// model doesn't know the files.
@@ -86,8 +93,8 @@ pub trait Room {
         requires { opened self.old < 2 ^ 32 }
         ensures opens { Opens (opened self.old) (opened self.new)
             (faults self.old) (faults self.new) result }
-        ensures files { LeavesOthers (is_modelled self.old) (is_modelled self.new) (file self.old)
-            (file self.new) (device self.old) (device self.new) name.now result }
+        ensures files { LeavesOthers (is_modelled self.old) (is_modelled self.new) leads_to
+            (file self.old) (file self.new) (device self.old) (device self.new) name.now result }
         ensures only { MakesOnly (is_modelled self.old) (file self.old name.now)
             (device self.old name.now) result }
         ensures new { IfOk result (IsMadeEmpty Self.Dsk.Disk (is_modelled self.old)
@@ -101,8 +108,8 @@ pub trait Room {
         requires { opened self.old < 2 ^ 32 }
         ensures opens { OpensOrFails (opened self.old) (opened self.new)
             (faults self.old) (faults self.new) result }
-        ensures files { LeavesOthers (is_modelled self.old) (is_modelled self.new) (file self.old)
-            (file self.new) (device self.old) (device self.new) name.now result }
+        ensures files { LeavesOthers (is_modelled self.old) (is_modelled self.new) leads_to
+            (file self.old) (file self.new) (device self.old) (device self.new) name.now result }
         ensures kept { is_modelled self.old → IsSome (file self.old name.now)
             → Stays (file self.old) (file self.new) (device self.old) (device self.new) name.now }
         ensures opened { IfOk result (IsFoundOrNew Self.Dsk.Disk (is_modelled self.old)
@@ -126,7 +133,7 @@ pub trait Room {
         requires { 0 < opened self.old }
         ensures out { opened self.new + 1 ≡ opened self.old }
         ensures count { faults self.new ≡ with_count (faults self.old) (Self.Dsk.faults disk) }
-        ensures others { OthersStay (file self.old) (file self.new)
+        ensures others { OthersStay leads_to (file self.old) (file self.new)
             (device self.old) (device self.new) name.now }
         ensures is_modelled { is_modelled self.old → is_modelled self.new }
         ensures none { is_modelled self.old → file self.old name.now ≡ None
@@ -139,4 +146,8 @@ pub trait Room {
     /// If the model knows the files, each has a device, and that has the same bytes.
     ghost modelled_file: { (m : Self) (name : Text) → is_modelled m
         → ModelsFile Self.Dsk.contents (file m name) (device m name) };
+
+    /// If the model knows the files, names of one place have one device.
+    ghost one_device: { (m : Self) (one other : Text) → is_modelled m
+        → place_of leads_to one ≡ place_of leads_to other → device m one ≡ device m other };
 }
