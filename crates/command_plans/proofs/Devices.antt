@@ -5,6 +5,7 @@ use Rattle.std.specs.Option.{IsSomeAnd}
 use Rattle.mtc_io.specs.Counts.{Rose}
 use Rattle.disk_core.specs.declared.disk.Disk.{Ghosts}
 use Rattle.disk_core.specs.Same.{SameDevice}
+use Rattle.mtc_room.specs.Places.{place_of}
 use Rattle.mtc_room.specs.Room.{OpensBytes, Stays}
 use Rattle.mtc_room.specs.declared.room.Room.{Ghosts as Rooms}
 use Rattle.mtc_command.specs.Answers.{Ending, replied, room_failed, no_memory}
@@ -18,7 +19,7 @@ use Rattle.mtc_command.proofs.Made.{left_opened}
 use Rattle.mtc_command.proofs.Served.{other_last, reply_so, rose_since}
 use Rattle.mtc_command.proofs.Works.{rose_with}
 use Rattle.command_plans.specs.Devices.{AllDiffer, AreHeld, AreThere, Device, DevicesServe}
-use Rattle.command_plans.specs.Devices.{EachDevice, FailsAmong, IfJournal}
+use Rattle.command_plans.specs.Devices.{EachDevice, FailsAmong, IfJournal, IsElsewhere}
 use Rattle.command_plans.specs.Devices.{LeavesDevices, OpensEach, SomeDevice, device_besides}
 use Rattle.command_plans.specs.Devices.{device_journals, named_if, rest_if}
 
@@ -41,26 +42,29 @@ each_named : (P : List ℕ → Journaled → Type 0) (journal : Bool) (name : Li
 each_named P true name names dids first rest = (first, rest)
 each_named P false name names dids first rest = rest
 
-other_named : (journal : Bool) (name other : List ℕ) (besides journals : List (List ℕ))
-    → IsOther (named_if (not journal) name besides) other
-    → IsOther (named_if journal name journals) other
-    → (other ≢ name) × (IsOther besides other × IsOther journals other)
-other_named true name other besides journals first second = (second.0, (first, second.1))
-other_named false name other besides journals first second = (first.0, (first.1, second))
+module _ (leads_to : List ℕ → List ℕ) where
+  other_named : (journal : Bool) (name other : List ℕ) (besides journals : List (List ℕ))
+      → IsOther leads_to (named_if (not journal) name besides) other
+      → IsOther leads_to (named_if journal name journals) other
+      → (place_of leads_to other ≢ place_of leads_to name)
+      × (IsOther leads_to besides other × IsOther leads_to journals other)
+  other_named true name other besides journals first second = (second.0, (first, second.1))
+  other_named false name other besides journals first second = (first.0, (first.1, second))
 
-other_devices : {D : Type 0} (devices : List (Device D)) (other : List ℕ)
-    → IsOther (device_besides devices) other → IsOther (device_journals devices) other
-    → EachDevice (λ device. other ≢ device.name) devices
-other_devices [] other first second = tt
-other_devices (device ∷ rest) other first second =
-    let apart = other_named device.journal device.name other (device_besides rest)
-    (device_journals rest) first second in
-    (apart.0, other_devices rest other apart.1.0 apart.1.1)
+  other_devices : {D : Type 0} (devices : List (Device D)) (other : List ℕ)
+      → IsOther leads_to (device_besides devices) other
+      → IsOther leads_to (device_journals devices) other
+      → EachDevice (IsElsewhere leads_to other) devices
+  other_devices [] other first second = tt
+  other_devices (device ∷ rest) other first second =
+      let apart = other_named device.journal device.name other (device_besides rest)
+      (device_journals rest) first second in
+      (apart.0, other_devices rest other apart.1.0 apart.1.1)
 
-other_first : (xs ys : List (List ℕ)) (name : List ℕ) → IsOther (xs ++ ys) name
-    → IsOther xs name
-other_first [] ys name other = tt
-other_first (x ∷ xs) ys name other = (other.0, other_first xs ys name other.1)
+  other_first : (xs ys : List (List ℕ)) (name : List ℕ) → IsOther leads_to (xs ++ ys) name
+      → IsOther leads_to xs name
+  other_first [] ys name other = tt
+  other_first (x ∷ xs) ys name other = (other.0, other_first xs ys name other.1)
 
 -- ---- small facts
 
@@ -72,7 +76,7 @@ there_not file there none = let wrong = subst IsSome none there in cc
 module _ {R S D : Type 0} (rooms : Rooms R S D) (g : Ghosts D) where
   -- a file of another name
   pub through : (devices : List (Device D)) (old new : R) → OpensEach rooms g devices old new
-      → (name : List ℕ) → EachDevice (λ device. name ≢ device.name) devices
+      → (name : List ℕ) → EachDevice (IsElsewhere rooms.leads_to name) devices
       → Stays (rooms.file old) (rooms.file new) (rooms.device old) (rooms.device new) name
   through [] old new closes name differ = closes.others name tt
   through (device ∷ rest) old new opens name differ =
@@ -116,7 +120,7 @@ module _ {R S D : Type 0} (rooms : Rooms R S D) (g : Ghosts D) where
         → Rose (rooms.faults old) (rooms.faults new)
 
   first_device : (device : Device D) (rest : List (Device D)) (old new : R)
-      → EachDevice (λ other. device.name ≢ other.name) rest
+      → EachDevice (IsElsewhere rooms.leads_to device.name) rest
       → OpensEach rooms g (device ∷ rest) old new → IsDeviceOf old new device
   first_device device rest old new differ opens =
       let mid = opens.0 in
@@ -141,7 +145,8 @@ module _ {R S D : Type 0} (rooms : Rooms R S D) (g : Ghosts D) where
             (subst (λ n. Rose n (g.faults device.after)) opened.begins rose)));
       }
 
-  moved : (one device : Device D) (old mid kept new : R) → one.name ≢ device.name
+  moved : (one device : Device D) (old mid kept new : R)
+      → IsElsewhere rooms.leads_to one.name device
       → HasOpenedBeside rooms g one.name old mid one.before
       → HasClosed rooms g one.name kept new one.after → IsDeviceOf mid kept device
       → IsDeviceOf old new device
@@ -162,7 +167,7 @@ module _ {R S D : Type 0} (rooms : Rooms R S D) (g : Ghosts D) where
       }
 
   each_moved : (one : Device D) (rest : List (Device D)) (old mid kept new : R)
-      → EachDevice (λ other. one.name ≢ other.name) rest
+      → EachDevice (IsElsewhere rooms.leads_to one.name) rest
       → HasOpenedBeside rooms g one.name old mid one.before
       → HasClosed rooms g one.name kept new one.after → EachDevice (IsDeviceOf mid kept) rest
       → EachDevice (IsDeviceOf old new) rest
@@ -172,7 +177,7 @@ module _ {R S D : Type 0} (rooms : Rooms R S D) (g : Ghosts D) where
     each_moved one rest old mid kept new differ.1 opened closed each.1,
   )
 
-  pub each_device : (devices : List (Device D)) (old new : R) → AllDiffer devices
+  pub each_device : (devices : List (Device D)) (old new : R) → AllDiffer rooms.leads_to devices
       → OpensEach rooms g devices old new → EachDevice (IsDeviceOf old new) devices
   each_device [] old new differ opens = tt
   each_device (device ∷ rest) old new differ opens = (
@@ -262,8 +267,10 @@ module _ {R S D : Type 0} (rooms : Rooms R S D) (g : Ghosts D) where
           opened = all_closed devices old new opens;
           later = later devices old new opens;
           is_modelled = modelled devices old new opens;
-          others = λ name other. through devices old new opens name (other_devices devices name
-              (other_first besides journals name other) (other_last besides journals name other));
+          others = λ name other. through devices old new opens name
+              (other_devices rooms.leads_to devices name
+              (other_first rooms.leads_to besides journals name other)
+              (other_last rooms.leads_to besides journals name other));
         };
         ends = record {
           reply = reply_so ending _ _

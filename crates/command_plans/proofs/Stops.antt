@@ -65,7 +65,8 @@ module _ {R S D : Type 0} (rooms : Rooms R S D) (g : Ghosts D) (only_now : OnlyN
 
   module _ (devices : List (Device D)) (old new : R) (opens : OpensEach rooms g devices old new)
     where
-      unmade_name : AreThere rooms g old devices → (name : List ℕ) → IsOpenedOrOther devices name
+      unmade_name : AreThere rooms g old devices → (name : List ℕ)
+          → IsOpenedOrOther rooms.leads_to devices name
           → IsUnmade rooms old new name
       unmade_name there name is = elim is [
         | inl some ↦ λ none. absurd (there_not (rooms.file old name)
@@ -76,7 +77,7 @@ module _ {R S D : Type 0} (rooms : Rooms R S D) (g : Ghosts D) (only_now : OnlyN
       kept_name : rooms.is_modelled old → EachDevice (IsDeviceOf rooms g old new) devices
           → AreThere rooms g old devices
           → EachDevice (λ device. OnlyReads g device.before device.after) devices
-          → (name : List ℕ) (did : Journaled) → IsOpenedOrOther devices name
+          → (name : List ℕ) (did : Journaled) → IsOpenedOrOther rooms.leads_to devices name
           → Leaves g (HasKept did) (rooms.device old name) (rooms.device new name)
       kept_name t each there only name did is = elim is [
         | inl some ↦ kept_some devices old new name did t each there only some
@@ -85,10 +86,11 @@ module _ {R S D : Type 0} (rooms : Rooms R S D) (g : Ghosts D) (only_now : OnlyN
       ]
 
       left_names : (ending : Ending) → ((name : List ℕ) (did : Journaled)
-          → IsOpenedOrOther devices name
+          → IsOpenedOrOther rooms.leads_to devices name
           → Leaves g (HasKept did) (rooms.device old name) (rooms.device new name))
           → (names : List (List ℕ)) (dids : List Journaled)
-          → EachName (IsOpenedOrOther devices) names → IfReply ending (λ reply. dids ≡ [])
+          → EachName (IsOpenedOrOther rooms.leads_to devices) names
+          → IfReply ending (λ reply. dids ≡ [])
           → OfEach (λ name did. Leaves g (LeftBy ending did) (rooms.device old name)
           (rooms.device new name)) (done_with names dids)
       left_names ending kept [] dids each none = tt
@@ -122,11 +124,11 @@ module _ {R S D : Type 0} (rooms : Rooms R S D) (g : Ghosts D) (only_now : OnlyN
               (done_with names dids)) is;
         };
         made = λ t. record {
-          no_file = of_names (IsOpenedOrOther devices)
+          no_file = of_names (IsOpenedOrOther rooms.leads_to devices)
               (λ name did. IsOnOld did → IsUnmade rooms old new name)
               (λ name did so on. unmade_name devices old new opens (there t) name so) names dids
               named;
-          unmade = λ memory. of_names (IsOpenedOrOther devices)
+          unmade = λ memory. of_names (IsOpenedOrOther rooms.leads_to devices)
               (λ name did. IsUnmade rooms old new name)
               (λ name did so. unmade_name devices old new opens (there t) name so) names dids
               named;

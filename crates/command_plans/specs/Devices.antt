@@ -4,6 +4,7 @@ use Rattle.std.specs.Prelude.{◌≡◌, ◌≢◌, ◌⊎◌, Bool, true, false
 use Rattle.byte_formats.specs.Types.{Text}
 use Rattle.mtc_io.specs.Counts.{Rose}
 use Rattle.disk_core.specs.declared.disk.Disk.{Ghosts}
+use Rattle.mtc_room.specs.Places.{place_of}
 use Rattle.mtc_room.specs.declared.room.Room.{Ghosts as Rooms}
 use Rattle.mtc_command.specs.Answers.{Ending, replied, room_failed, no_memory, IfReply, IsEarly}
 use Rattle.mtc_command.specs.Answers.{status_of}
@@ -54,10 +55,15 @@ abbrev pub IfJournal : Bool → Type 0 → Type 0
 IfJournal true P = P
 IfJournal false P = Unit {0}
 
--- No two are of one name.
-abbrev pub AllDiffer : {D : Type 0} → List (Device D) → Type 0
-AllDiffer [] = Unit {0}
-AllDiffer (device ∷ rest) = EachDevice (λ other. device.name ≢ other.name) rest × AllDiffer rest
+-- The names of two places.
+abbrev pub IsElsewhere : {D : Type 0} → (Text → Text) → Text → Device D → Type 0
+IsElsewhere leads_to name device = place_of leads_to name ≢ place_of leads_to device.name
+
+-- No two are of one place.
+abbrev pub AllDiffer : {D : Type 0} → (Text → Text) → List (Device D) → Type 0
+AllDiffer leads_to [] = Unit {0}
+AllDiffer leads_to (device ∷ rest) =
+    EachDevice (IsElsewhere leads_to device.name) rest × AllDiffer leads_to rest
 
 -- ---- the work
 
@@ -117,11 +123,11 @@ module _ {R S D : Type 0} (rooms : Rooms R S D) (g : Ghosts D) where
   AreThere old =
       EachDevice (λ device. IfJournal device.journal (IsSome (rooms.file old device.name)))
 
-  -- A command that opened devices of different names, among those that it names, worked on them and
-  -- closed them has done what the outcome of the files wants.
+  -- A command that opened devices of different places, among those that it names, worked on them
+  -- and closed them has done what the outcome of the files wants.
   abbrev pub DevicesServe : Type 0
   DevicesServe = (files : List Text) (outcome : Files → Outcome) (devices : List (Device D))
-      (old new : R) (ending : Ending) → AllDiffer devices
+      (old new : R) (ending : Ending) → AllDiffer rooms.leads_to devices
       → (rooms.is_modelled old → AreThere old devices)
       → EachDevice (λ device. IsNamed files device.name) devices → OpensEach devices old new
       → HasWorkedOver g outcome devices ending

@@ -1,14 +1,14 @@
 -- A command with a file beside its journal: from the devices that were opened to the file system.
 use Rattle.std.proofs.Common.{◌≡◌, ◌≢◌, ◌≤◌, inl, inr, ℕ, List, [], ◌∷◌, Option, None, Some}
-use Rattle.std.proofs.Common.{IfSome, IsSome, subst, sym, ◌∙◌, ap, refl, arith, codes}
-use Rattle.std.proofs.Common.{length}
-use Rattle.std.proofs.lemmas.List.{length-append}
+use Rattle.std.proofs.Common.{IfSome, IsSome, subst, sym, ◌∙◌, refl, arith, codes, length}
 use Rattle.std.specs.Option.{IsSomeAnd}
 use Rattle.mtc_io.specs.Counts.{Rose}
 use Rattle.disk_core.specs.declared.disk.Disk.{Ghosts}
 use Rattle.disk_core.specs.Times.{OnlyReads}
 use Rattle.disk_core.specs.Same.{SameDevice}
 use Rattle.disk_core.proofs.Times.{nothing_read}
+use Rattle.mtc_room.proofs.Places.{longer_place}
+use Rattle.mtc_room.specs.Places.{place_of, split_name}
 use Rattle.mtc_room.specs.Room.{OpensBytes, ModelsFile}
 use Rattle.mtc_room.specs.declared.room.Room.{Ghosts as Rooms}
 use Rattle.mtc_command.specs.Answers.{Ending, replied, room_failed, no_memory, IfReply, Reply}
@@ -28,13 +28,17 @@ use Rattle.mtc_command.proofs.Served.{reply_so, rose_since}
 use Rattle.mtc_command.proofs.Valid.{contents_opened}
 use Rattle.mtc_command.proofs.Works.{of_bytes, rose_with}
 
--- a longer name is another
-pub longer_other : (name : List ℕ) → name ≢ tiles_name name
-longer_other name same =
-    let long = length-append name (codes ".tiles") in
-    let length_is : length name ≡ length (tiles_name name) = ap length same in
+-- the end of the name of a file of tiles has no slash
+pub plain_end : split_name (codes ".tiles") ≡ ([], codes ".tiles")
+unfolding split_name
+plain_end = refl
+
+-- a longer name is of another place
+pub longer_other : (leads_to : List ℕ → List ℕ) (name : List ℕ)
+    → place_of leads_to name ≢ place_of leads_to (tiles_name name)
+longer_other leads_to name same =
     let six : length (codes ".tiles") ≡ 6 = refl in
-    absurd (omega (arith, long, length_is, six))
+    longer_place leads_to (codes ".tiles") plain_end name (omega (arith, six)) same
 
 -- more failures may follow
 pub rose_on : (before count more : ℕ) → Rose before count → count ≤ more → Rose before more
@@ -68,7 +72,7 @@ module _ {R S D : Type 0} (rooms : Rooms R S D) (g : Ghosts D) (name : List ℕ)
   pub stays_beside : (rooms.file both name ≡ rooms.file old name)
       × (rooms.device both name ≡ rooms.device old name)
   stays_beside =
-      let other = beside.others name (longer_other name) in
+      let other = beside.others name (longer_other rooms.leads_to name) in
       (other.bytes ∙ (opened.stay name).bytes, other.disk ∙ (opened.stay name).disk)
 
 -- the file system failed if one of the devices did
@@ -109,7 +113,7 @@ module _ {R S D : Type 0} (rooms : Rooms R S D) (g : Ghosts D) (name : List ℕ)
   stays_kept : rooms.file kept name ≡ rooms.file old name
   stays_kept =
       let stays = stays_beside rooms g name old mid both d e opened opened_beside in
-      (closed_beside.others name (longer_other name)).bytes ∙ stays.0
+      (closed_beside.others name (longer_other rooms.leads_to name)).bytes ∙ stays.0
 
   pub put_back : rooms.is_modelled old → IsSomeAnd (rooms.device new name) (λ x. SameDevice g d' x)
   put_back t = closed.device (through t) (subst IsSome (sym stays_kept) (opened.bytes t).there)
@@ -257,7 +261,7 @@ module _ {R S D : Type 0} (rooms : Rooms R S D) (g : Ghosts D) where
     pub put_beside : rooms.is_modelled old
         → IsSomeAnd (rooms.device new beside) (λ x. SameDevice g e' x)
     put_beside t =
-        let other = closed.others beside (λ same. longer_other name (sym same)) in
+        let other = closed.others beside (λ same. longer_other rooms.leads_to name (sym same)) in
         subst (λ (o : Option D). IsSomeAnd o (λ x. SameDevice g e' x)) (sym other.disk)
         (closed_beside.device (opened_beside.is_modelled (opened.is_modelled t))
         (opened_beside.bytes (opened.is_modelled t)).there)
@@ -296,7 +300,7 @@ module _ {R S D : Type 0} (rooms : Rooms R S D) (g : Ghosts D) (name : List ℕ)
   stays_failed : (rooms.file both name ≡ rooms.file old name)
       × (rooms.device both name ≡ rooms.device old name)
   stays_failed =
-      let other = failed.others name (longer_other name) in
+      let other = failed.others name (longer_other rooms.leads_to name) in
       (other.bytes ∙ (opened.stay name).bytes, other.disk ∙ (opened.stay name).disk)
 
   pub put_failed : rooms.is_modelled old
@@ -363,5 +367,5 @@ module _ {R S D : Type 0} (rooms : Rooms R S D) (g : Ghosts D) (name : List ℕ)
   pub failed_only_read : OnlyNow g → OnlyReadsBeside rooms g old new (tiles_name name)
   failed_only_read only_now = λ t. still g (rooms.device old (tiles_name name))
       (rooms.device new (tiles_name name)) untouched only_now
-      ((closed.others (tiles_name name) (λ same. longer_other name (sym same))).disk
+      ((closed.others (tiles_name name) (λ same. longer_other rooms.leads_to name (sym same))).disk
       ∙ failed.stays.disk ∙ (opened.stay (tiles_name name)).disk)

@@ -85,16 +85,17 @@ rose_since old mid new later rose = elim rose [
 ]
 
 -- a name that is none of some and none of others is none of both
-pub other_both : (xs ys : List (List ℕ)) (name : List ℕ) → IsOther xs name → IsOther ys name
-    → IsOther (xs ++ ys) name
-other_both [] ys name first second = second
-other_both (x ∷ xs) ys name first second = (first.0, other_both xs ys name first.1 second)
+pub other_both : (leads_to : List ℕ → List ℕ) (xs ys : List (List ℕ)) (name : List ℕ)
+    → IsOther leads_to xs name → IsOther leads_to ys name → IsOther leads_to (xs ++ ys) name
+other_both leads_to [] ys name first second = second
+other_both leads_to (x ∷ xs) ys name first second =
+    (first.0, other_both leads_to xs ys name first.1 second)
 
 -- and one that is none of both is none of the others
-pub other_last : (xs ys : List (List ℕ)) (name : List ℕ) → IsOther (xs ++ ys) name
-    → IsOther ys name
-other_last [] ys name other = other
-other_last (x ∷ xs) ys name other = other_last xs ys name other.1
+pub other_last : (leads_to : List ℕ → List ℕ) (xs ys : List (List ℕ)) (name : List ℕ)
+    → IsOther leads_to (xs ++ ys) name → IsOther leads_to ys name
+other_last leads_to [] ys name other = other
+other_last leads_to (x ∷ xs) ys name other = other_last leads_to xs ys name other.1
 
 module _ {R S D : Type 0} (rooms : Rooms R S D) (disks : Disks D) where
   -- More files may be changed than are.
@@ -106,7 +107,8 @@ module _ {R S D : Type 0} (rooms : Rooms R S D) (disks : Disks D) where
       opened = done.back.opened;
       later = done.back.later;
       is_modelled = done.back.is_modelled;
-      others = λ name other. done.back.others name (other_last besides names name other);
+      others = λ name other. done.back.others name
+          (other_last rooms.leads_to besides names name other);
     };
     ends = done.ends;
     made = done.made;

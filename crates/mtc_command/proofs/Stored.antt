@@ -21,7 +21,7 @@ use Rattle.mtc_command.specs.Made.{HasKept, IsOpen, Journaled, Leaves, appended,
 use Rattle.mtc_command.specs.Made.{reads, started, untouched}
 use Rattle.mtc_command.specs.Served.{ClosesAll, OfEach, done_with}
 use Rattle.mtc_command.specs.Steps.{Outcome, held_in, with_file}
-use Rattle.mtc_command.specs.Stored.{HasStoredBoth, HasStoredOn, KeepsBoth, LeavesBoth}
+use Rattle.mtc_command.specs.Stored.{HasStoredBoth, HasStoredOn, LeavesBoth}
 use Rattle.mtc_command.specs.Stored.{MayRepresent, StoresBeside, StoresBoth}
 use Rattle.mtc_command.specs.Works.{HasClosed, HasFailedBeside, HasOpened, HasOpenedBeside}
 use Rattle.mtc_command.specs.Works.{journaled_by}
@@ -263,7 +263,8 @@ module _ (goes : List Text → Text → Type 0) (Valid : List Text → Type 0) {
           contents = contents_opened g _ _ d d' (opened.device t) back only_reads.contents;
           beside = still g (rooms.device old (tiles_name name))
               (rooms.device new (tiles_name name)) untouched only_now
-              ((closed.others (tiles_name name) (λ same. longer_other name (sym same))).disk
+              ((closed.others (tiles_name name)
+              (λ same. longer_other rooms.leads_to name (sym same))).disk
               ∙ (opened.stay (tiles_name name)).disk);
         }),
     tt,

@@ -1,6 +1,6 @@
 -- The work on the devices of a journal and of its tiles: from the devices after the journal was
 -- opened to those that the file system opened.
-use Rattle.std.proofs.Common.{◌≡◌, ◌≤◌, inl, inr, ℕ, List, [], ◌∷◌, Option, None, Some}
+use Rattle.std.proofs.Common.{◌≡◌, inl, inr, ℕ, List, [], ◌∷◌, Option, None, Some}
 use Rattle.std.proofs.Common.{IfSome, option_map, subst, arith}
 use Rattle.std.specs.Prelude.{option_and_then}
 use Rattle.mtc_io.specs.Counts.{Rose}

@@ -3,6 +3,7 @@ use Rattle.std.specs.Prelude.{◌≡◌, ◌≢◌, ◌≤◌, List, [], ◌∷�
 use Rattle.byte_formats.specs.Types.{Text}
 use Rattle.disk_core.specs.declared.disk.Disk.{Ghosts as Disks}
 use Rattle.mtc_io.specs.Counts.{Rose}
+use Rattle.mtc_room.specs.Places.{place_of}
 use Rattle.mtc_room.specs.Room.{Stays}
 use Rattle.mtc_room.specs.declared.room.Room.{Ghosts as Rooms}
 pub use Rattle.file_events.specs.Worlds.{Journals}
@@ -31,19 +32,20 @@ abbrev pub done_with : List Text → List Journaled → Journals
 done_with [] dids = []
 done_with (name ∷ names) dids = (name, first_journaled dids) ∷ done_with names (rest_journaled dids)
 
--- The name is none of these.
-abbrev pub IsOther : List Text → Text → Type 0
-IsOther [] name = Unit {0}
-IsOther (other ∷ others) name = (name ≢ other) × IsOther others name
+-- The name has another place than each of these.
+abbrev pub IsOther : (Text → Text) → List Text → Text → Type 0
+IsOther leads_to [] name = Unit {0}
+IsOther leads_to (other ∷ others) name =
+    (place_of leads_to name ≢ place_of leads_to other) × IsOther leads_to others name
 
 module _ {R S D : Type 0} (rooms : Rooms R S D) (old new : R) where
   -- All that was opened is closed, the file system's count of failures has not fallen, and each
-  -- file that has none of these names stays.
+  -- file that is at the place of none of these names stays.
   pub record ClosesAll (names : List Text) : Type 0 where
     pub opened : rooms.opened new ≡ rooms.opened old
     pub later : rooms.faults old ≤ rooms.faults new
     pub is_modelled : rooms.is_modelled old → rooms.is_modelled new
-    pub others : (name : Text) → IsOther names name
+    pub others : (name : Text) → IsOther rooms.leads_to names name
         → Stays (rooms.file old) (rooms.file new) (rooms.device old) (rooms.device new) name
 
   -- No file of this name is made.

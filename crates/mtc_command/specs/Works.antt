@@ -110,7 +110,7 @@ module _ {R S D : Type 0} (rooms : Rooms R S D) (g : Ghosts D) (name : Text) whe
     pub opened : rooms.opened new ≡ rooms.opened old + 1
     pub fine : rooms.faults new ≡ rooms.faults old
     pub is_modelled : rooms.is_modelled old → rooms.is_modelled new
-    pub others : OthersStay (rooms.file old) (rooms.file new)
+    pub others : OthersStay rooms.leads_to (rooms.file old) (rooms.file new)
         (rooms.device old) (rooms.device new) name
     pub kept : rooms.is_modelled old → IsSome (rooms.file old name)
         → Stays (rooms.file old) (rooms.file new) (rooms.device old) (rooms.device new) name
@@ -128,7 +128,7 @@ module _ {R S D : Type 0} (rooms : Rooms R S D) (g : Ghosts D) (name : Text) whe
     pub opened : rooms.opened new + 1 ≡ rooms.opened old
     pub count : rooms.faults new ≡ with_count (rooms.faults old) (g.faults disk)
     pub is_modelled : rooms.is_modelled old → rooms.is_modelled new
-    pub others : OthersStay (rooms.file old) (rooms.file new)
+    pub others : OthersStay rooms.leads_to (rooms.file old) (rooms.file new)
         (rooms.device old) (rooms.device new) name
     pub none : rooms.is_modelled old → rooms.file old name ≡ None → rooms.file new name ≡ None
     pub device : rooms.is_modelled old → IsSome (rooms.file old name)
@@ -141,7 +141,7 @@ module _ {R S D : Type 0} (rooms : Rooms R S D) (name : Text) where
     pub rose : Rose (rooms.faults old) (rooms.faults new)
     pub later : rooms.faults old ≤ rooms.faults new
     pub is_modelled : rooms.is_modelled old → rooms.is_modelled new
-    pub others : OthersStay (rooms.file old) (rooms.file new)
+    pub others : OthersStay rooms.leads_to (rooms.file old) (rooms.file new)
         (rooms.device old) (rooms.device new) name
     pub stays : Stays (rooms.file old) (rooms.file new) (rooms.device old) (rooms.device new) name
 
@@ -171,7 +171,7 @@ module _ {R S D : Type 0} (rooms : Rooms R S D) (g : Ghosts D) (name : Text) whe
   -- failed.
   pub record HasNotOpened (old new : R) (ending : Ending) : Type 0 where
     pub opened : rooms.opened new ≡ rooms.opened old
-    pub others : OthersStay (rooms.file old) (rooms.file new)
+    pub others : OthersStay rooms.leads_to (rooms.file old) (rooms.file new)
         (rooms.device old) (rooms.device new) name
     pub stays : Stays (rooms.file old) (rooms.file new) (rooms.device old) (rooms.device new) name
     pub cause : ((ending ≡ not_new name (codes "Exists")) × (rooms.faults new ≡ rooms.faults old)

@@ -16,8 +16,8 @@ use std::alloc::Global;
 /// The bytes of most input files are at most so many.
 pub const INPUT_LIMIT: u64 = 16_777_216;
 
-/// Those of an export are at most so many.
-pub const LIST_LIMIT: u64 = 1_073_741_824;
+/// Those of a list, of entries or of a cosigner's steps in an export, are at most so many.
+pub const LIST_LIMIT: u64 = 8_589_934_592;
 
 /// Reads a file of at most so many bytes, and closes what the file system opened.
 pub fn read_input<'a, R: Room>(

@@ -9,10 +9,10 @@ use Rattle.mtc_words.specs.declared.name.Name.TheVariants.{Member, Show, Verify,
 use Rattle.mtc_words.specs.declared.name.Name.TheVariants.{Checkpoint, Entries, EntriesFrom}
 use Rattle.mtc_words.specs.declared.name.Name.TheVariants.{Consist, Subtree}
 use Rattle.mtc_words.specs.declared.name.Name.TheVariants.{Keygen, InitCosigner, Advance, Cosign}
-use Rattle.mtc_words.specs.declared.name.Name.TheVariants.{Export, Quarrel}
+use Rattle.mtc_words.specs.declared.name.Name.TheVariants.{InitCosigner2, Child, Export, Quarrel}
 use Rattle.mtc_words.specs.declared.name.Name.TheVariants.{Landmark, Landmarks, LightCert}
 use Rattle.mtc_words.specs.declared.name.Name.TheVariants.{TrustLandmarks, Cert, Audit, Drill}
-use Rattle.mtc_words.specs.declared.name.Name.TheVariants.{Switch, Tile}
+use Rattle.mtc_words.specs.declared.name.Name.TheVariants.{Switch, Tile, TileAnew}
 use Rattle.mtc_words.specs.declared.name.Name.TheVariants.{Certs, IssueList, LightCerts}
 use Rattle.mtc_words.specs.declared.name.Name.TheVariants.{Root, Held, MonitorInit, Monitor}
 use Rattle.mtc_words.specs.declared.name.Name.TheVariants.{Help, Version}
@@ -20,9 +20,10 @@ use Rattle.mtc_words.specs.declared.name.Name.TheVariants.{Help, Version}
 -- The commands, in the order of the table of docs/COMMANDS.md.
 abbrev pub listed_commands : List Name
 listed_commands = Member ∷ Show ∷ Verify ∷ InitLog ∷ Issue ∷ IssueList ∷ Checkpoint ∷ Entries
-    ∷ EntriesFrom ∷ Consist ∷ Subtree ∷ Keygen ∷ InitCosigner ∷ Advance ∷ Cosign ∷ Export ∷ Landmark
-    ∷ Landmarks ∷ LightCert ∷ LightCerts ∷ Switch ∷ Tile ∷ TrustLandmarks ∷ Cert ∷ Certs ∷ Audit
-    ∷ Quarrel ∷ Drill ∷ Root ∷ Held ∷ MonitorInit ∷ Monitor ∷ Help ∷ Version ∷ []
+    ∷ EntriesFrom ∷ Consist ∷ Subtree ∷ Keygen ∷ InitCosigner ∷ InitCosigner2 ∷ Advance ∷ Child
+    ∷ Cosign ∷ Export ∷ Landmark ∷ Landmarks ∷ LightCert ∷ LightCerts ∷ Switch ∷ Tile ∷ TileAnew
+    ∷ TrustLandmarks ∷ Cert ∷ Certs ∷ Audit ∷ Quarrel ∷ Drill ∷ Root ∷ Held ∷ MonitorInit ∷ Monitor
+    ∷ Help ∷ Version ∷ []
 
 -- The first part of a text, up to a colon.
 abbrev pub up_to_colon : List Text → Text

@@ -17,7 +17,9 @@ subtree J START END SIZE: the request to a cosigner that holds the first SIZE en
 subtree from START up to END, without END\n\
 keygen HEIGHT WIDTH SECRET: the public key of 60 bytes in base64\n\
 init-cosigner S ID LOGID HEIGHT WIDTH SECRET: the public key of 60 bytes in base64\n\
+init-cosigner2 S ID LOGID TOP LOW WIDTH SECRET: the public key of 60 bytes in base64\n\
 advance S REQUEST: advanced SIZE\n\
+child S: child NUMBER\n\
 cosign S REQUEST: the signature, with the cosigner's id\n\
 export S: what others may know of it: all of its journal but the secret\n\
 landmark J: landmark NUMBER SIZE\n\
@@ -26,6 +28,7 @@ light-cert J INDEX: the certificate, in DER\n\
 light-certs J FIRST LAST: the certificates, as PEM\n\
 switch J: switched INDEX\n\
 tile J: tiled SIZE\n\
+tile-anew J: tiled SIZE\n\
 trust-landmarks LIST MAXACTIVE ENTRIES: the tables of a store that trusts the subtrees of the \
 active landmarks\n\
 cert J INDEX START END SIGNATURES: the certificate, in DER\n\

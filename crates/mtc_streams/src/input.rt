@@ -17,9 +17,6 @@ use mtc_room::{Room, RoomError};
 use std::alloc::Global;
 use tree_core::TreeHash;
 
-/// The bytes of a file of entries that is read as a stream are at most so many.
-pub const ENTRIES_LIMIT: u64 = 8_589_934_592;
-
 /// Reads a file of entries of at most so many bytes, and closes what the file system opened. The
 /// fold, which has taken no item so far, takes each item in its order. The answer is the number of
 /// the items, or the first fault of the file.

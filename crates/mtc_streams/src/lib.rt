@@ -10,4 +10,4 @@
 
 mod input;
 
-pub use input::{ENTRIES_LIMIT, fold_input};
+pub use input::fold_input;

@@ -14,9 +14,10 @@ use Rattle.mtc_words.specs.declared.name.Name.TheVariants.{Member, Show, Verify,
 use Rattle.mtc_words.specs.declared.name.Name.TheVariants.{Checkpoint, Entries, EntriesFrom}
 use Rattle.mtc_words.specs.declared.name.Name.TheVariants.{Consist, Subtree}
 use Rattle.mtc_words.specs.declared.name.Name.TheVariants.{Keygen, InitCosigner, Advance, Cosign}
+use Rattle.mtc_words.specs.declared.name.Name.TheVariants.{InitCosigner2, Child}
 use Rattle.mtc_words.specs.declared.name.Name.TheVariants.{Export, Landmark, Landmarks, LightCert}
 use Rattle.mtc_words.specs.declared.name.Name.TheVariants.{TrustLandmarks, Cert, Audit, Drill}
-use Rattle.mtc_words.specs.declared.name.Name.TheVariants.{Quarrel, Tile, Switch}
+use Rattle.mtc_words.specs.declared.name.Name.TheVariants.{Quarrel, Tile, TileAnew, Switch}
 use Rattle.mtc_words.specs.declared.name.Name.TheVariants.{IssueList, LightCerts, Certs}
 use Rattle.mtc_words.specs.declared.name.Name.TheVariants.{Root, Held, MonitorInit, Monitor}
 use Rattle.mtc_words.specs.declared.name.Name.TheVariants.{Help, Version}
@@ -85,7 +86,15 @@ from_words InitCosigner ws c e =
     following (Has InitCosigner ws) (id_word 2 (word ws 1)) _ c (λ id third.
     following (Has InitCosigner ws) (id_word 3 (word ws 2)) _ c (λ log is.
     reported _ c is) third) second) first) e
+from_words InitCosigner2 ws c e =
+    following (Has InitCosigner2 ws) (number_word 4 is_height (word ws 3)) _ c (λ top first.
+    following (Has InitCosigner2 ws) (number_word 5 is_height (word ws 4)) _ c (λ low second.
+    following (Has InitCosigner2 ws) (number_word 6 is_width (word ws 5)) _ c (λ width third.
+    following (Has InitCosigner2 ws) (id_word 2 (word ws 1)) _ c (λ id fourth.
+    following (Has InitCosigner2 ws) (id_word 3 (word ws 2)) _ c (λ log is.
+    reported _ c is) fourth) third) second) first) e
 from_words Advance ws c e = reported _ c e
+from_words Child ws c e = reported _ c e
 from_words Cosign ws c e = reported _ c e
 from_words Export ws c e = reported _ c e
 from_words Landmark ws c e = reported _ c e
@@ -108,6 +117,7 @@ from_words Quarrel ws c e = reported _ c e
 from_words Drill ws c e =
     following (Has Drill ws) (number_word 1 is_any (word ws 0)) _ c (λ number is. reported _ c is) e
 from_words Tile ws c e = reported _ c e
+from_words TileAnew ws c e = reported _ c e
 from_words Switch ws c e = reported _ c e
 from_words IssueList ws c e = reported _ c e
 from_words LightCerts ws c e =

@@ -1,6 +1,6 @@
 -- What contracts see of a command.
 use Rattle.std.specs.Prelude.{◌≡◌, ℕ, ◌==◌, ◌&&◌, ◌||◌, Bool, true, nat_le, List, Result, Ok, Err}
-use Rattle.std.specs.Prelude.{Option, Some, None}
+use Rattle.std.specs.Prelude.{Option, Some, None, IfSome}
 use Rattle.byte_formats.specs.Types.{Text}
 use Rattle.landmarks.specs.Limits.{most_active, most_entries}
 use Rattle.mtc_words.specs.declared.command.Command.{Command}
@@ -9,10 +9,10 @@ use Rattle.mtc_words.specs.declared.command.Command.TheVariants.{Issue, Checkpoi
 use Rattle.mtc_words.specs.declared.command.Command.TheVariants.{EntriesFrom}
 use Rattle.mtc_words.specs.declared.command.Command.TheVariants.{Consist, Subtree, Keygen}
 use Rattle.mtc_words.specs.declared.command.Command.TheVariants.{InitCosigner, Advance, Cosign}
-use Rattle.mtc_words.specs.declared.command.Command.TheVariants.{Export, Quarrel}
+use Rattle.mtc_words.specs.declared.command.Command.TheVariants.{Child, Export, Quarrel}
 use Rattle.mtc_words.specs.declared.command.Command.TheVariants.{Landmark, Landmarks, LightCert}
 use Rattle.mtc_words.specs.declared.command.Command.TheVariants.{TrustLandmarks, Cert, Audit, Drill}
-use Rattle.mtc_words.specs.declared.command.Command.TheVariants.{Tile, Switch}
+use Rattle.mtc_words.specs.declared.command.Command.TheVariants.{Tile, TileAnew, Switch}
 use Rattle.mtc_words.specs.declared.command.Command.TheVariants.{IssueList, LightCerts, Certs}
 use Rattle.mtc_words.specs.declared.command.Command.TheVariants.{Root, Held, MonitorInit, Monitor}
 use Rattle.mtc_words.specs.declared.command.Command.TheVariants.{Help, Version}
@@ -31,8 +31,9 @@ pub data CommandValue : Type 0 where
   consist : Text → ℕ → ℕ → CommandValue
   subtree : Text → ℕ → ℕ → ℕ → CommandValue
   keygen : ℕ → ℕ → Text → CommandValue
-  init_cosigner : Text → Text → Text → ℕ → ℕ → Text → CommandValue
+  init_cosigner : Text → Text → Text → ℕ → Option ℕ → ℕ → Text → CommandValue
   advance : Text → Text → CommandValue
+  child : Text → CommandValue
   cosign : Text → Text → CommandValue
   export : Text → CommandValue
   landmark : Text → CommandValue
@@ -44,6 +45,7 @@ pub data CommandValue : Type 0 where
   quarrel : Text → CommandValue
   drill : ℕ → CommandValue
   tile : Text → CommandValue
+  tile_anew : Text → CommandValue
   switch : Text → CommandValue
   issue_list : Text → Text → CommandValue
   light_certs : Text → ℕ → ℕ → CommandValue
@@ -68,9 +70,10 @@ command_value (EntriesFrom journal first size) = entries_from journal.now first 
 command_value (Consist journal old new) = consist journal.now old new
 command_value (Subtree journal start end size) = subtree journal.now start end size
 command_value (Keygen height width secret) = keygen height width secret.now
-command_value (InitCosigner journal id log height width secret) =
-    init_cosigner journal.now id log height width secret.now
+command_value (InitCosigner journal id log top low width secret) =
+    init_cosigner journal.now id log top low width secret.now
 command_value (Advance journal request) = advance journal.now request.now
+command_value (Child journal) = child journal.now
 command_value (Cosign journal request) = cosign journal.now request.now
 command_value (Export journal) = export journal.now
 command_value (Landmark journal) = landmark journal.now
@@ -85,6 +88,7 @@ command_value (Audit certificate store unix_time items kept) =
 command_value (Quarrel kept) = quarrel kept.now
 command_value (Drill number) = drill number
 command_value (Tile journal) = tile journal.now
+command_value (TileAnew journal) = tile_anew journal.now
 command_value (Switch journal) = switch journal.now
 command_value (IssueList journal requests) = issue_list journal.now requests.now
 command_value (LightCerts journal first last) = light_certs journal.now first last
@@ -141,9 +145,10 @@ IsInRange (entries_from journal first size) = Unit {0}
 IsInRange (consist journal old new) = Unit {0}
 IsInRange (subtree journal start end size) = Unit {0}
 IsInRange (keygen height width secret) = (is_height height ≡ true) × (is_width width ≡ true)
-IsInRange (init_cosigner journal id log height width secret) =
-    (is_height height ≡ true) × (is_width width ≡ true)
+IsInRange (init_cosigner journal id log top low width secret) = (is_height top ≡ true)
+    × (IfSome low (λ height. is_height height ≡ true) × (is_width width ≡ true))
 IsInRange (advance journal request) = Unit {0}
+IsInRange (child journal) = Unit {0}
 IsInRange (cosign journal request) = Unit {0}
 IsInRange (export journal) = Unit {0}
 IsInRange (landmark journal) = Unit {0}
@@ -155,6 +160,7 @@ IsInRange (audit certificate store unix_time items kept) = is_time unix_time ≡
 IsInRange (quarrel kept) = Unit {0}
 IsInRange (drill number) = Unit {0}
 IsInRange (tile journal) = Unit {0}
+IsInRange (tile_anew journal) = Unit {0}
 IsInRange (switch journal) = Unit {0}
 IsInRange (issue_list journal requests) = Unit {0}
 IsInRange (light_certs journal first last) = Unit {0}
@@ -179,8 +185,9 @@ journal_of (entries_from journal first size) = Some journal
 journal_of (consist journal old new) = Some journal
 journal_of (subtree journal start end size) = Some journal
 journal_of (keygen height width secret) = None
-journal_of (init_cosigner journal id log height width secret) = Some journal
+journal_of (init_cosigner journal id log top low width secret) = Some journal
 journal_of (advance journal request) = Some journal
+journal_of (child journal) = Some journal
 journal_of (cosign journal request) = Some journal
 journal_of (export journal) = Some journal
 journal_of (landmark journal) = Some journal
@@ -192,6 +199,7 @@ journal_of (audit certificate store unix_time items kept) = None
 journal_of (quarrel kept) = None
 journal_of (drill number) = None
 journal_of (tile journal) = Some journal
+journal_of (tile_anew journal) = Some journal
 journal_of (switch journal) = Some journal
 journal_of (issue_list journal requests) = Some journal
 journal_of (light_certs journal first last) = Some journal

@@ -9,10 +9,10 @@ use Rattle.mtc_words.specs.declared.name.Name.TheVariants.{Member, Show, Verify,
 use Rattle.mtc_words.specs.declared.name.Name.TheVariants.{Checkpoint, Entries, EntriesFrom}
 use Rattle.mtc_words.specs.declared.name.Name.TheVariants.{Consist, Subtree}
 use Rattle.mtc_words.specs.declared.name.Name.TheVariants.{Keygen, InitCosigner, Advance, Cosign}
-use Rattle.mtc_words.specs.declared.name.Name.TheVariants.{Export, Quarrel}
+use Rattle.mtc_words.specs.declared.name.Name.TheVariants.{InitCosigner2, Child, Export, Quarrel}
 use Rattle.mtc_words.specs.declared.name.Name.TheVariants.{Landmark, Landmarks, LightCert}
 use Rattle.mtc_words.specs.declared.name.Name.TheVariants.{TrustLandmarks, Cert, Audit, Drill}
-use Rattle.mtc_words.specs.declared.name.Name.TheVariants.{Tile, Switch}
+use Rattle.mtc_words.specs.declared.name.Name.TheVariants.{Tile, TileAnew, Switch}
 use Rattle.mtc_words.specs.declared.name.Name.TheVariants.{IssueList, LightCerts, Certs}
 use Rattle.mtc_words.specs.declared.name.Name.TheVariants.{Root, Held, MonitorInit, Monitor}
 use Rattle.mtc_words.specs.declared.name.Name.TheVariants.{Help, Version}
@@ -48,18 +48,21 @@ named_from_landmark word =
     else (if bytes_eq word (codes "quarrel") then Some Quarrel
     else (if bytes_eq word (codes "drill") then Some Drill
     else (if bytes_eq word (codes "tile") then Some Tile
+    else (if bytes_eq word (codes "tile-anew") then Some TileAnew
     else (if bytes_eq word (codes "switch") then Some Switch
-    else named_from_list word)))))))))
+    else named_from_list word))))))))))
 
 -- The same for an argument that names none of those before the commands of a cosigner.
 abbrev pub named_from_cosigner : Text → Option Name
 named_from_cosigner word =
     if bytes_eq word (codes "keygen") then Some Keygen
     else (if bytes_eq word (codes "init-cosigner") then Some InitCosigner
+    else (if bytes_eq word (codes "init-cosigner2") then Some InitCosigner2
     else (if bytes_eq word (codes "advance") then Some Advance
+    else (if bytes_eq word (codes "child") then Some Child
     else (if bytes_eq word (codes "cosign") then Some Cosign
     else (if bytes_eq word (codes "export") then Some Export
-    else named_from_landmark word))))
+    else named_from_landmark word))))))
 
 -- The command that an argument names.
 unfoldable pub named_command : Text → Option Name
@@ -90,7 +93,9 @@ word_count Consist = 3
 word_count Subtree = 4
 word_count Keygen = 3
 word_count InitCosigner = 6
+word_count InitCosigner2 = 7
 word_count Advance = 2
+word_count Child = 1
 word_count Cosign = 2
 word_count Export = 1
 word_count Landmark = 1
@@ -102,6 +107,7 @@ word_count Audit = 5
 word_count Quarrel = 1
 word_count Drill = 1
 word_count Tile = 1
+word_count TileAnew = 1
 word_count Switch = 1
 word_count IssueList = 2
 word_count LightCerts = 3
@@ -127,7 +133,9 @@ takes_journal Consist = true
 takes_journal Subtree = true
 takes_journal Keygen = false
 takes_journal InitCosigner = true
+takes_journal InitCosigner2 = true
 takes_journal Advance = true
+takes_journal Child = true
 takes_journal Cosign = true
 takes_journal Export = true
 takes_journal Landmark = true
@@ -139,6 +147,7 @@ takes_journal Audit = false
 takes_journal Quarrel = false
 takes_journal Drill = false
 takes_journal Tile = true
+takes_journal TileAnew = true
 takes_journal Switch = true
 takes_journal IssueList = true
 takes_journal LightCerts = true

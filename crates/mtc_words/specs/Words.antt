@@ -15,10 +15,10 @@ use Rattle.mtc_words.specs.declared.name.Name.TheVariants.{Member, Show, Verify,
 use Rattle.mtc_words.specs.declared.name.Name.TheVariants.{Checkpoint, Entries, EntriesFrom}
 use Rattle.mtc_words.specs.declared.name.Name.TheVariants.{Consist, Subtree}
 use Rattle.mtc_words.specs.declared.name.Name.TheVariants.{Keygen, InitCosigner, Advance, Cosign}
-use Rattle.mtc_words.specs.declared.name.Name.TheVariants.{Export, Quarrel}
+use Rattle.mtc_words.specs.declared.name.Name.TheVariants.{InitCosigner2, Child, Export, Quarrel}
 use Rattle.mtc_words.specs.declared.name.Name.TheVariants.{Landmark, Landmarks, LightCert}
 use Rattle.mtc_words.specs.declared.name.Name.TheVariants.{TrustLandmarks, Cert, Audit, Drill}
-use Rattle.mtc_words.specs.declared.name.Name.TheVariants.{Tile, Switch}
+use Rattle.mtc_words.specs.declared.name.Name.TheVariants.{Tile, TileAnew, Switch}
 use Rattle.mtc_words.specs.declared.name.Name.TheVariants.{IssueList, LightCerts, Certs}
 use Rattle.mtc_words.specs.declared.name.Name.TheVariants.{Root, Held, MonitorInit, Monitor}
 use Rattle.mtc_words.specs.declared.name.Name.TheVariants.{Help, Version}
@@ -28,7 +28,8 @@ use Rattle.mtc_words.specs.Commands.{is_height}
 use Rattle.mtc_words.specs.Commands.{is_width, is_time, is_active, is_limit, is_any}
 use Rattle.mtc_words.specs.Commands.{init_cosigner, advance, cosign, landmark, landmarks}
 use Rattle.mtc_words.specs.Commands.{export, light_cert, trust_landmarks, cert, audit, drill}
-use Rattle.mtc_words.specs.Commands.{quarrel, tile, switch, root, held, monitor_init, monitor}
+use Rattle.mtc_words.specs.Commands.{quarrel, tile, tile_anew, switch, root, held, monitor_init}
+use Rattle.mtc_words.specs.Commands.{child, monitor}
 use Rattle.mtc_words.specs.Commands.{issue_list, light_certs, certs}
 use Rattle.mtc_words.specs.Commands.{help, version}
 use Rattle.mtc_words.specs.Names.{named_command, word_count, takes_journal, is_tiles_name}
@@ -114,8 +115,16 @@ command_from InitCosigner ws = do
   width ← number_word 5 is_width (word ws 4)
   id ← id_word 2 (word ws 1)
   log ← id_word 3 (word ws 2)
-  Ok (init_cosigner (word ws 0) id log height width (word ws 5))
+  Ok (init_cosigner (word ws 0) id log height None width (word ws 5))
+command_from InitCosigner2 ws = do
+  top ← number_word 4 is_height (word ws 3)
+  low ← number_word 5 is_height (word ws 4)
+  width ← number_word 6 is_width (word ws 5)
+  id ← id_word 2 (word ws 1)
+  log ← id_word 3 (word ws 2)
+  Ok (init_cosigner (word ws 0) id log top (Some low) width (word ws 6))
 command_from Advance ws = Ok (advance (word ws 0) (word ws 1))
+command_from Child ws = Ok (child (word ws 0))
 command_from Cosign ws = Ok (cosign (word ws 0) (word ws 1))
 command_from Export ws = Ok (export (word ws 0))
 command_from Landmark ws = Ok (landmark (word ws 0))
@@ -139,6 +148,7 @@ command_from Drill ws = do
   number ← number_word 1 is_any (word ws 0)
   Ok (drill number)
 command_from Tile ws = Ok (tile (word ws 0))
+command_from TileAnew ws = Ok (tile_anew (word ws 0))
 command_from Switch ws = Ok (switch (word ws 0))
 command_from IssueList ws = Ok (issue_list (word ws 0) (word ws 1))
 command_from LightCerts ws = do

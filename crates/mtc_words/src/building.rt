@@ -1,16 +1,16 @@
 //! The command of a name, from the arguments after it.
 
-ghost use Rattle.std.specs.Prelude.{◌≡◌, ◌<◌, ◌+◌, length, map, string_bytes, IfOk};
+ghost use Rattle.std.specs.Prelude.{◌≡◌, ◌<◌, ◌+◌, true, false, length, map, string_bytes, IfOk};
 ghost use Rattle.byte_formats.specs.Readings.{Answers};
 ghost use Rattle.tls_wire.specs.Decimal.{number_of};
 ghost use Rattle.mtc_words.specs.Commands.{command_value, said, is_height, is_width, is_time};
 ghost use Rattle.mtc_words.specs.Commands.{is_active, is_limit, is_any, IsInRange};
-ghost use Rattle.mtc_words.specs.Names.{word_count};
+ghost use Rattle.mtc_words.specs.Names.{takes_journal, word_count};
 ghost use Rattle.mtc_words.specs.Words.{command_from, number_word, id_word, word};
 
 use crate::command::Command;
 use crate::error::WordError;
-use crate::name::Name;
+use crate::name::{Name, takes_journal};
 use landmarks::{MOST_ACTIVE, MOST_ENTRIES};
 use std::alloc::Global;
 use tls_wire::{AnchorError, AnchorId, read_number};
@@ -227,7 +227,38 @@ fn init_cosigner<'a>(alloc: Global, words: &'a [String]) -> Result<Command<'a>, 
     let width = width(words, 4)?;
     let own = id(alloc, words, 1)?;
     let log = id(alloc, words, 2)?;
-    Ok(Command::InitCosigner(text(words, 0), own, log, height, width, text(words, 5)))
+    Ok(Command::InitCosigner(
+        text(words, 0),
+        own,
+        log,
+        height,
+        None,
+        width,
+        text(words, 5),
+    ))
+}
+
+// The arguments of `init-cosigner2`.
+fn init_cosigner2<'a>(alloc: Global, words: &'a [String]) -> Result<Command<'a>, WordError>
+    requires { length words.now ≡ word_count Name.InitCosigner2 }
+    ensures exact { Answers WordError.Memory
+        (command_from Name.InitCosigner2 (map string_bytes words.now)) (said result) }
+    ensures range { IfOk result (λ command. IsInRange (command_value command)) }
+{
+    let top = height(words, 3)?;
+    let low = height(words, 4)?;
+    let width = width(words, 5)?;
+    let own = id(alloc, words, 1)?;
+    let log = id(alloc, words, 2)?;
+    Ok(Command::InitCosigner(
+        text(words, 0),
+        own,
+        log,
+        top,
+        Some(low),
+        width,
+        text(words, 6),
+    ))
 }
 
 fn trust_landmarks<'a>(words: &'a [String]) -> Result<Command<'a>, WordError>
@@ -297,9 +328,50 @@ fn monitor<'a>(words: &'a [String]) -> Result<Command<'a>, WordError>
     ))
 }
 
-// The command of this name with its arguments, of which there are as many as it wants.
-pub fn build<'a>(alloc: Global, name: Name, words: &'a [String]) -> Result<Command<'a>, WordError>
-    requires { length words.now ≡ word_count name }
+// The command of a name whose first argument is a journal.
+fn build_on_journal<'a>(
+    alloc: Global,
+    name: Name,
+    words: &'a [String],
+) -> Result<Command<'a>, WordError>
+    requires counted { length words.now ≡ word_count name }
+    requires journal { takes_journal name ≡ true }
+    ensures exact { Answers WordError.Memory
+        (command_from name (map string_bytes words.now)) (said result) }
+    ensures range { IfOk result (λ command. IsInRange (command_value command)) }
+{
+    match name {
+        Name::InitLog => init_log(alloc, words),
+        Name::Issue => Ok(Command::Issue(text(words, 0), text(words, 1))),
+        Name::Checkpoint => Ok(Command::Checkpoint(text(words, 0))),
+        Name::Entries => entries(words),
+        Name::EntriesFrom => entries_from(words),
+        Name::Consist => consist(words),
+        Name::Subtree => subtree(words),
+        Name::InitCosigner => init_cosigner(alloc, words),
+        Name::InitCosigner2 => init_cosigner2(alloc, words),
+        Name::Advance => Ok(Command::Advance(text(words, 0), text(words, 1))),
+        Name::Child => Ok(Command::Child(text(words, 0))),
+        Name::Cosign => Ok(Command::Cosign(text(words, 0), text(words, 1))),
+        Name::Export => Ok(Command::Export(text(words, 0))),
+        Name::Landmark => Ok(Command::Landmark(text(words, 0))),
+        Name::Landmarks => Ok(Command::Landmarks(text(words, 0))),
+        Name::LightCert => light_cert(words),
+        Name::Cert => cert(words),
+        Name::Tile => Ok(Command::Tile(text(words, 0))),
+        Name::TileAnew => Ok(Command::TileAnew(text(words, 0))),
+        Name::Switch => Ok(Command::Switch(text(words, 0))),
+        Name::IssueList => Ok(Command::IssueList(text(words, 0), text(words, 1))),
+        Name::LightCerts => light_certs(words),
+        Name::Certs => certs(words),
+        _ => unreachable!(),
+    }
+}
+
+// The command of any other name.
+fn build_alone<'a>(alloc: Global, name: Name, words: &'a [String]) -> Result<Command<'a>, WordError>
+    requires counted { length words.now ≡ word_count name }
+    requires alone { takes_journal name ≡ false }
     ensures exact { Answers WordError.Memory
         (command_from name (map string_bytes words.now)) (said result) }
     ensures range { IfOk result (λ command. IsInRange (command_value command)) }
@@ -308,36 +380,31 @@ pub fn build<'a>(alloc: Global, name: Name, words: &'a [String]) -> Result<Comma
         Name::Member => Ok(Command::Member(text(words, 0))),
         Name::Show => Ok(Command::Show(text(words, 0))),
         Name::Verify => verify(words),
-        Name::InitLog => init_log(alloc, words),
-        Name::Issue => Ok(Command::Issue(text(words, 0), text(words, 1))),
-        Name::Checkpoint => Ok(Command::Checkpoint(text(words, 0))),
-        Name::Entries => entries(words),
-        Name::EntriesFrom => entries_from(words),
-        Name::Consist => consist(words),
-        Name::Subtree => subtree(words),
         Name::Keygen => keygen(words),
-        Name::InitCosigner => init_cosigner(alloc, words),
-        Name::Advance => Ok(Command::Advance(text(words, 0), text(words, 1))),
-        Name::Cosign => Ok(Command::Cosign(text(words, 0), text(words, 1))),
-        Name::Export => Ok(Command::Export(text(words, 0))),
-        Name::Landmark => Ok(Command::Landmark(text(words, 0))),
-        Name::Landmarks => Ok(Command::Landmarks(text(words, 0))),
-        Name::LightCert => light_cert(words),
         Name::TrustLandmarks => trust_landmarks(words),
-        Name::Cert => cert(words),
         Name::Audit => audit(words),
         Name::Quarrel => Ok(Command::Quarrel(text(words, 0))),
         Name::Drill => drill(words),
-        Name::Tile => Ok(Command::Tile(text(words, 0))),
-        Name::Switch => Ok(Command::Switch(text(words, 0))),
-        Name::IssueList => Ok(Command::IssueList(text(words, 0), text(words, 1))),
-        Name::LightCerts => light_certs(words),
-        Name::Certs => certs(words),
         Name::Root => Ok(Command::Root(text(words, 0))),
         Name::Held => Ok(Command::Held(text(words, 0))),
         Name::MonitorInit => monitor_init(alloc, words),
         Name::Monitor => monitor(words),
         Name::Help => Ok(Command::Help),
         Name::Version => Ok(Command::Version),
+        _ => unreachable!(),
+    }
+}
+
+// The command of this name with its arguments, of which there are as many as it wants.
+pub fn build<'a>(alloc: Global, name: Name, words: &'a [String]) -> Result<Command<'a>, WordError>
+    requires { length words.now ≡ word_count name }
+    ensures exact { Answers WordError.Memory
+        (command_from name (map string_bytes words.now)) (said result) }
+    ensures range { IfOk result (λ command. IsInRange (command_value command)) }
+{
+    if takes_journal(name) {
+        build_on_journal(alloc, name, words)
+    } else {
+        build_alone(alloc, name, words)
     }
 }

@@ -15,7 +15,7 @@ pub enum Command<'a> {
     /// 1970-01-01T00:00:00Z, at most 253402300799.
     Verify(&'a str, &'a str, u64),
     /// `init-log J LOGID MAXACTIVE LIMIT`: make the journal of a log, with 1 to 10,000 active
-    /// landmarks and at most 2 to 1,048,576 entries.
+    /// landmarks and at most 2 to 16,777,216 entries.
     InitLog(&'a str, AnchorId, u64, u64),
     /// `issue J REQUEST`: add the entry of a request to the log.
     Issue(&'a str, &'a str),
@@ -37,9 +37,14 @@ pub enum Command<'a> {
     /// `init-cosigner S ID LOGID HEIGHT WIDTH SECRET`: make the journal of a cosigner with this id,
     /// for the log of LOGID and with the key of a secret. The height is 5 or 10, the width 1, 2, 4
     /// or 8.
-    InitCosigner(&'a str, AnchorId, AnchorId, u64, u64, &'a str),
+    ///
+    /// `init-cosigner2 S ID LOGID TOP LOW WIDTH SECRET`: the same with a key of two levels, whose
+    /// upper tree has the first height, and its lower trees the second one.
+    InitCosigner(&'a str, AnchorId, AnchorId, u64, Option<u64>, u64, &'a str),
     /// `advance S REQUEST`: hold the root of the larger log in a request.
     Advance(&'a str, &'a str),
+    /// `child S`: begin the next lower tree of a key of two levels.
+    Child(&'a str),
     /// `cosign S REQUEST`: sign the subtree of a request.
     Cosign(&'a str, &'a str),
     /// `export S`: write what others may know of a cosigner.
@@ -68,6 +73,9 @@ pub enum Command<'a> {
     Drill(u64),
     /// `tile J`: store the tiles of the log that are full and not stored.
     Tile(&'a str),
+    /// `tile-anew J`: write the tiles of the log that were stored again, into a file that is lost,
+    /// cut or changed.
+    TileAnew(&'a str),
     /// `switch J`: from the size of the log on entries name the algorithm of their key.
     Switch(&'a str),
     /// `issue-list J REQUESTS`: add the entries of several requests to the log, all or none.

@@ -20,7 +20,9 @@ pub enum Name {
     Subtree,
     Keygen,
     InitCosigner,
+    InitCosigner2,
     Advance,
+    Child,
     Cosign,
     Export,
     Landmark,
@@ -32,6 +34,7 @@ pub enum Name {
     Quarrel,
     Drill,
     Tile,
+    TileAnew,
     Switch,
     IssueList,
     LightCerts,
@@ -71,7 +74,9 @@ fn read_cosigner_name(word: &str) -> Option<Name>
     match word {
         "keygen" => Some(Name::Keygen),
         "init-cosigner" => Some(Name::InitCosigner),
+        "init-cosigner2" => Some(Name::InitCosigner2),
         "advance" => Some(Name::Advance),
+        "child" => Some(Name::Child),
         "cosign" => Some(Name::Cosign),
         "export" => Some(Name::Export),
         _ => read_landmark_name(word),
@@ -92,6 +97,7 @@ fn read_landmark_name(word: &str) -> Option<Name>
         "quarrel" => Some(Name::Quarrel),
         "drill" => Some(Name::Drill),
         "tile" => Some(Name::Tile),
+        "tile-anew" => Some(Name::TileAnew),
         "switch" => Some(Name::Switch),
         _ => read_list_name(word),
     }
@@ -132,7 +138,8 @@ pub fn wanted_count(name: Name) -> usize
         Name::Help | Name::Version => 0,
         Name::Member | Name::Show | Name::Checkpoint => 1,
         Name::Export | Name::Landmark | Name::Landmarks | Name::Drill | Name::Tile => 1,
-        Name::Quarrel | Name::Root | Name::Held | Name::MonitorInit | Name::Switch => 1,
+        Name::TileAnew | Name::Switch | Name::Child => 1,
+        Name::Quarrel | Name::Root | Name::Held | Name::MonitorInit => 1,
         Name::Issue | Name::Entries | Name::Advance | Name::Cosign | Name::LightCert => 2,
         Name::IssueList => 2,
         Name::Verify | Name::EntriesFrom | Name::Consist | Name::LightCerts => 3,
@@ -140,6 +147,7 @@ pub fn wanted_count(name: Name) -> usize
         Name::InitLog | Name::Subtree | Name::Monitor => 4,
         Name::Cert | Name::Audit => 5,
         Name::InitCosigner | Name::Certs => 6,
+        Name::InitCosigner2 => 7,
     }
 }
 
@@ -154,8 +162,9 @@ pub fn takes_journal(name: Name) -> bool
         Name::InitLog | Name::Issue | Name::Checkpoint | Name::Entries => true,
         Name::EntriesFrom | Name::Consist | Name::Subtree => true,
         Name::Landmark | Name::Landmarks => true,
-        Name::LightCert | Name::Cert | Name::Tile | Name::Switch => true,
+        Name::LightCert | Name::Cert | Name::Tile | Name::TileAnew | Name::Switch => true,
         Name::IssueList | Name::LightCerts | Name::Certs => true,
-        Name::InitCosigner | Name::Advance | Name::Cosign | Name::Export => true,
+        Name::InitCosigner | Name::InitCosigner2 | Name::Advance | Name::Child => true,
+        Name::Cosign | Name::Export => true,
     }
 }

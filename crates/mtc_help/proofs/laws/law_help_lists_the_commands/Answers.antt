@@ -5,10 +5,10 @@ use Rattle.mtc_words.specs.declared.name.Name.TheVariants.{Member, Show, Verify,
 use Rattle.mtc_words.specs.declared.name.Name.TheVariants.{Checkpoint, Entries, EntriesFrom}
 use Rattle.mtc_words.specs.declared.name.Name.TheVariants.{Consist, Subtree}
 use Rattle.mtc_words.specs.declared.name.Name.TheVariants.{Keygen, InitCosigner, Advance, Cosign}
-use Rattle.mtc_words.specs.declared.name.Name.TheVariants.{Export, Quarrel}
+use Rattle.mtc_words.specs.declared.name.Name.TheVariants.{InitCosigner2, Child, Export, Quarrel}
 use Rattle.mtc_words.specs.declared.name.Name.TheVariants.{Landmark, Landmarks, LightCert}
 use Rattle.mtc_words.specs.declared.name.Name.TheVariants.{TrustLandmarks, Cert, Audit, Drill}
-use Rattle.mtc_words.specs.declared.name.Name.TheVariants.{Switch, Tile}
+use Rattle.mtc_words.specs.declared.name.Name.TheVariants.{Switch, Tile, TileAnew}
 use Rattle.mtc_words.specs.declared.name.Name.TheVariants.{Certs, IssueList, LightCerts}
 use Rattle.mtc_words.specs.declared.name.Name.TheVariants.{Root, Held, MonitorInit, Monitor}
 use Rattle.mtc_words.specs.declared.name.Name.TheVariants.{Help, Version}
@@ -38,24 +38,27 @@ returns-clause-all c = place_of
     place_of Subtree = (10, refl)
     place_of Keygen = (11, refl)
     place_of InitCosigner = (12, refl)
-    place_of Advance = (13, refl)
-    place_of Cosign = (14, refl)
-    place_of Export = (15, refl)
-    place_of Landmark = (16, refl)
-    place_of Landmarks = (17, refl)
-    place_of LightCert = (18, refl)
-    place_of LightCerts = (19, refl)
-    place_of Switch = (20, refl)
-    place_of Tile = (21, refl)
-    place_of TrustLandmarks = (22, refl)
-    place_of Cert = (23, refl)
-    place_of Certs = (24, refl)
-    place_of Audit = (25, refl)
-    place_of Quarrel = (26, refl)
-    place_of Drill = (27, refl)
-    place_of Root = (28, refl)
-    place_of Held = (29, refl)
-    place_of MonitorInit = (30, refl)
-    place_of Monitor = (31, refl)
-    place_of Help = (32, refl)
-    place_of Version = (33, refl)
+    place_of InitCosigner2 = (13, refl)
+    place_of Advance = (14, refl)
+    place_of Child = (15, refl)
+    place_of Cosign = (16, refl)
+    place_of Export = (17, refl)
+    place_of Landmark = (18, refl)
+    place_of Landmarks = (19, refl)
+    place_of LightCert = (20, refl)
+    place_of LightCerts = (21, refl)
+    place_of Switch = (22, refl)
+    place_of Tile = (23, refl)
+    place_of TileAnew = (24, refl)
+    place_of TrustLandmarks = (25, refl)
+    place_of Cert = (26, refl)
+    place_of Certs = (27, refl)
+    place_of Audit = (28, refl)
+    place_of Quarrel = (29, refl)
+    place_of Drill = (30, refl)
+    place_of Root = (31, refl)
+    place_of Held = (32, refl)
+    place_of MonitorInit = (33, refl)
+    place_of Monitor = (34, refl)
+    place_of Help = (35, refl)
+    place_of Version = (36, refl)
