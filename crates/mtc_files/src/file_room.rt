@@ -111,6 +111,8 @@ where
 
     ghost is_modelled = { λ _. ⊥ };
 
+    ghost leads_to = { λ path. path };
+
     ghost file = { λ _ _. None };
 
     ghost device = { λ _ _. None };
@@ -176,4 +178,6 @@ where
     }
 
     ghost modelled_file = { λ _ _ contents. absurd contents };
+
+    ghost one_device = { λ _ _ _ contents _. absurd contents };
 }

@@ -20,10 +20,12 @@ const LONGEST_NAME: usize = 255;
 
 const TILES_END: usize = ".tiles".len();
 // The first record of a journal begins with its tag, after the header, a commit byte and a length.
-// That of a cosigner has a secret in it.
+// That of a cosigner, with a key of one level or of two, has a secret in it.
 const TAG: usize = HEADER.len() + 5;
 
 const COSIGNER_TAG: u8 = 0x11;
+
+const COSIGNER_2_TAG: u8 = 0x15;
 // So many bytes at the end of a journal are written again at each opening, in pieces: all that a
 // command may have written after the last sync that answered Ok. After that sync it writes one
 // record, and no more if a call fails. No write is longer than a journal's longest, of 131,094
@@ -184,7 +186,7 @@ fn kind_of(file: &impl FileExt, length: u64) -> io::Result<Kind> {
     file.read_exact_at(&mut first[..size], 0)?;
     Ok(if !first.starts_with(&HEADER) {
         Kind::NoJournal
-    } else if first[TAG] == COSIGNER_TAG {
+    } else if first[TAG] == COSIGNER_TAG || first[TAG] == COSIGNER_2_TAG {
         Kind::Cosigner
     } else {
         Kind::OtherJournal
