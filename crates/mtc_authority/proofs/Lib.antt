@@ -21,3 +21,5 @@ pub mod Certified
 pub mod CertifiedLists
 pub mod OnlyRead
 pub mod Requested
+pub mod Rebuilding
+pub mod Stopping

@@ -28,7 +28,7 @@ use Rattle.mtc_command.proofs.Stored.{stored_on, stored_tiled}
 use Rattle.mtc_command.proofs.Tiled.{tiled_on, valid_tiled_on}
 use Rattle.mtc_command.proofs.Works.{each_some}
 use Rattle.mtc_authority.specs.NoJournal.{SparesTiles}
-use Rattle.mtc_authority.specs.OpenLogs.{LogWasClosed, LogWasOpened}
+use Rattle.mtc_authority.specs.OpenLogs.{DevicesWereClosed, LogWasOpened}
 use Rattle.mtc_authority.specs.StoredTiles.{HasTilesOf, StoresLog}
 use Rattle.mtc_authority.specs.Works.{HasWorkedOnLog, IsLog, StaysLog, found_log, log_bytes_say}
 use Rattle.mtc_authority.specs.Works.{log_outcome, log_says}
@@ -89,7 +89,8 @@ stored_by g h says mid new tiles tiles' (Some bytes) (Some l) state made stores 
 module _ {R S D H : Type 0} {hashes : Hashes H} (rooms : Rooms R S D) (g : Ghosts D) (name : Text)
     (old both new : R) (log later : Log H D D hashes g g)
     (opened : LogWasOpened rooms g name old both log)
-    (closed : LogWasClosed rooms g name both new later) (work : Work) where
+    (closed : DevicesWereClosed rooms g name both new (log_disk later) (log_tiles_disk later))
+    (work : Work) where
   abbrev h : HashFunction
   h = hashes.hash
 
@@ -101,10 +102,10 @@ module _ {R S D H : Type 0} {hashes : Hashes H} (rooms : Rooms R S D) (g : Ghost
 
   -- the device of the journal as the file system opened it
   abbrev first_disk : D
-  first_disk = opened.header.opened_disk
+  first_disk = opened.devices.header.opened_disk
 
   read_first : OnlyReads g first_disk (log_disk log)
-  read_first = only_read_on g first_disk opened.disk (log_disk log) opened.header.only_reads
+  read_first = only_read_on g first_disk opened.disk (log_disk log) opened.devices.header.only_reads
       opened.is.only_reads
 
   found : IsFoundBeside g (log_bytes_say h name work) next first_disk (log_disk log) opened.tiles
@@ -112,7 +113,8 @@ module _ {R S D H : Type 0} {hashes : Hashes H} (rooms : Rooms R S D) (g : Ghost
   found =
       let is = opened.is in
       found_since g h name work first_disk opened.disk (log_disk log) opened.tiles (log_records log)
-      (shown_with (view_of log)) opened.header.only_reads is.list is.found is.tiles is.stands is.all
+      (shown_with (view_of log)) opened.devices.header.only_reads is.list is.found is.tiles
+      is.stands is.all
 
   -- how it ended, and what it left
   pub log_serves : ReadsCrashState g → (ending : Ending)
@@ -123,11 +125,13 @@ module _ {R S D H : Type 0} {hashes : Hashes H} (rooms : Rooms R S D) (g : Ghost
   log_serves crash_state ending works =
       let is = opened.is in
       served_tiled rooms g name (name ∷ tiles_name name ∷ []) (log_bytes_say h name work) old
-      opened.mid both closed.mid new first_disk (log_disk later) opened.tiles
-      (log_tiles_disk later) ending opened.header.opened opened.beside closed.beside closed.journal
+      opened.devices.mid both closed.mid new first_disk (log_disk later) opened.tiles
+      (log_tiles_disk later) ending opened.devices.header.opened opened.devices.beside closed.beside
+      closed.journal
       (tiled_on g name (log_bytes_say h name work) next first_disk (log_disk log)
       (log_disk later) opened.tiles (log_tiles_disk log) (log_tiles_disk later) ending crash_state
-      read_first (is.fine ∙ opened.header.fine) is.only_reads_tiles is.fine_tiles found.contents
+      read_first (is.fine ∙ opened.devices.header.fine) is.only_reads_tiles is.fine_tiles
+      found.contents
       found.stands found.all
       (subst (λ (o : Option (List Text)). HasWorkedTiled g name
       (option_and_then (λ bytes. o) (g.contents (log_tiles_disk log))) next (log_disk log)
@@ -140,8 +144,9 @@ module _ {R S D H : Type 0} {hashes : Hashes H} (rooms : Rooms R S D) (g : Ghost
   log_keeps_valid valid =
       let is = opened.is in
       valid_tiled rooms g name (name ∷ tiles_name name ∷ []) (log_bytes_say h name work) old
-      opened.mid both closed.mid new first_disk (log_disk later) opened.tiles
-      (log_tiles_disk later) no_memory opened.header.opened opened.beside closed.beside
+      opened.devices.mid both closed.mid new first_disk (log_disk later) opened.tiles
+      (log_tiles_disk later) no_memory opened.devices.header.opened opened.devices.beside
+      closed.beside
       closed.journal (IsLog h)
       (valid_tiled_on g (IsLog h) name (log_bytes_say h name work) next first_disk (log_disk log)
       (log_disk later) (g.contents opened.tiles) read_first found.contents found.stands found.all
@@ -152,8 +157,10 @@ module _ {R S D H : Type 0} {hashes : Hashes H} (rooms : Rooms R S D) (g : Ghost
       → ReadsAtMost g (log_tiles_disk log) (log_tiles_disk later)
       → OnlyReadsBeside rooms g old new (tiles_name name)
   log_only_reads only_now all only =
-      only_read_tiled rooms g name old opened.mid both closed.mid new first_disk (log_disk later)
-      opened.tiles (log_tiles_disk later) opened.header.opened opened.beside closed.beside
+      only_read_tiled rooms g name old opened.devices.mid both closed.mid new first_disk (log_disk
+      later)
+      opened.tiles (log_tiles_disk later) opened.devices.header.opened opened.devices.beside
+      closed.beside
       closed.journal all
       (only_read_on g opened.tiles (log_tiles_disk log) (log_tiles_disk later)
       opened.is.only_reads_tiles
@@ -166,8 +173,9 @@ module _ {R S D H : Type 0} {hashes : Hashes H} (rooms : Rooms R S D) (g : Ghost
   log_stores_both all stores =
       let is = opened.is in
       stored_tiled (HasTilesOf h) (IsLog h) rooms g name (log_bytes_say h name work) old
-      opened.mid both closed.mid new first_disk (log_disk later) opened.tiles
-      (log_tiles_disk later) opened.header.opened opened.beside closed.beside closed.journal all
+      opened.devices.mid both closed.mid new first_disk (log_disk later) opened.tiles
+      (log_tiles_disk later) opened.devices.header.opened opened.devices.beside closed.beside
+      closed.journal all
       (stored_on (HasTilesOf h) (IsLog h) g name (log_bytes_say h name work) next first_disk
       (log_disk log) (log_disk later) opened.tiles (log_tiles_disk log) (log_tiles_disk later)
       read_first is.only_reads_tiles found.contents found.stands found.all
@@ -182,7 +190,7 @@ module _ {R S D H : Type 0} {hashes : Hashes H} (rooms : Rooms R S D) (g : Ghost
 
   -- the file of the journal was one
   pub log_spares : SparesTiles rooms old new name
-  log_spares = λ t not. absurd (opened.is_journal t not)
+  log_spares = λ t not. absurd (opened.devices.is_journal t not)
 
 module _ {H D : Type 0} {hashes : Hashes H} {g : Ghosts D} where
   -- both devices were only read

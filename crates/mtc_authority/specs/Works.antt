@@ -1,6 +1,6 @@
 -- What files are opened as a log with its tiles, and what a command has to reply over it.
 use Rattle.std.specs.Prelude.{◌≡◌, ◌≢◌, ℕ, Bool, true, false, List, Option, None, Some, IfSome}
-use Rattle.std.specs.Prelude.{IsOk}
+use Rattle.std.specs.Prelude.{IsOk, Result, Ok, Err}
 use Rattle.byte_formats.specs.Types.{HashFunction, Text}
 use Rattle.issuance_log.specs.Reasons.{log_open_text}
 use Rattle.disk_core.specs.declared.disk.Disk.{Ghosts}
@@ -36,7 +36,7 @@ use Rattle.mtc_authority.specs.LogOutcomes.{checkpoint_reply, entries_from_reply
 use Rattle.mtc_authority.specs.LogOutcomes.{entries_reply}
 use Rattle.mtc_authority.specs.RequestOutcomes.{consist_reply, subtree_reply}
 use Rattle.mtc_authority.specs.SwitchOutcome.{switch_says}
-use Rattle.mtc_authority.specs.TileOutcome.{tile_says}
+use Rattle.mtc_authority.specs.TileOutcome.{rebuilt_reply, tile_says}
 use Rattle.mtc_authority.specs.declared.work.Work.{Work}
 use Rattle.mtc_authority.specs.declared.work.Work.TheVariants.{Checkpoint, Entries}
 use Rattle.mtc_authority.specs.declared.work.Work.TheVariants.{EntriesFrom, Issue, Consist}
@@ -54,6 +54,11 @@ log_open_ending file (NoTiles tile_error.Failed) = room_failed (tiles_name file)
 log_open_ending file (NoTiles (tile_error.BadTile level place)) =
     replied (bad_tile file level place)
 log_open_ending file why = replied (refused BadForm (Some file) (log_open_text why))
+
+-- What comes of `tile-anew`, where this is the last size of the tiles, or the refusal.
+abbrev pub rebuilt_ending : Text → Result ℕ LogOpenError → Ending
+rebuilt_ending journal (Ok size) = replied (rebuilt_reply size)
+rebuilt_ending journal (Err why) = log_open_ending journal why
 
 -- The work lists items of the log. It writes them while it reads them.
 abbrev pub lists_items : Work → Bool

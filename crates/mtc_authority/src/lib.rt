@@ -1,6 +1,6 @@
 //! The commands on the journal of a log: `init-log`, `issue`, `checkpoint`, `entries`,
 //! `entries-from`, `consist`, `subtree`, `landmark`, `landmarks`, `light-cert`, `cert`, `switch`,
-//! `tile`, `issue-list`, `light-certs` and `certs`.
+//! `tile`, `tile-anew`, `issue-list`, `light-certs` and `certs`.
 //!
 //! The file system opens a journal and the file of its tiles, the log is opened over them and
 //! worked on, and both are closed ([`on_log`]); what is done with the log is a [`Work`]. A work
@@ -24,6 +24,7 @@ mod marks;
 mod opening;
 mod requests;
 mod switch;
+pub mod tile_anew;
 mod tiles;
 mod tree;
 mod work;

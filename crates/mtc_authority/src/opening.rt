@@ -2,15 +2,18 @@
 //! opened over them, and both are closed.
 
 ghost use Rattle.std.specs.Prelude.{◌≡◌, ◌<◌, ◌+◌, ◌^◌, take, IfErr, IfOk, IfSome, OnOk};
+ghost use Rattle.byte_formats.specs.Types.{HashFunction, Text};
 ghost use Rattle.disk_core.specs.Times.{OnlyReads};
-ghost use Rattle.frame_pool.specs.Frames.{IsNew};
+ghost use Rattle.issuance_log.specs.Words.{log_disk, log_tiles_disk};
 ghost use Rattle.journal_core.specs.Format.{header};
 ghost use Rattle.journal_core.specs.Opens.{HasReason, IsOfHeader};
 ghost use Rattle.mtc_command.specs.Answers.{stop_ending, tiles_name};
-ghost use Rattle.mtc_command.specs.Works.{HasOpenedBeside};
+ghost use Rattle.mtc_command.specs.Steps.{Outcome};
 ghost use Rattle.mtc_authority.specs.NoJournal.{HasReadHeader, IsNoJournal};
-ghost use Rattle.mtc_authority.specs.OpenLogs.{LogWasClosed, LogWasNotOpened, LogWasOpened};
-ghost use Rattle.mtc_authority.specs.Works.{log_open_ending};
+ghost use Rattle.mtc_authority.specs.OpenLogs.{DevicesWereClosed, DevicesWereOpened};
+ghost use Rattle.mtc_authority.specs.OpenLogs.{LogWasNotOpened, LogWasOpened, RefusesNoLog};
+ghost use Rattle.mtc_authority.specs.Works.{log_bytes_say, log_open_ending};
+ghost use Rattle.mtc_authority.specs.declared.work.Work.{Work};
 
 use disk_core::{Disk, read_len, read_part};
 use frame_pool::Pool;
@@ -22,11 +25,11 @@ use std::alloc::Global;
 use tile_store::TileError;
 use tree_core::TreeHash;
 
-// So many tiles are held in memory at once.
-const FRAMES: usize = 64;
+/// So many tiles are held in memory at once.
+pub(crate) const FRAMES: usize = 64;
 
-// Why a journal isn't opened as a log with its tiles.
-fn refuse_log<'a>(journal: &'a str, why: LogOpenError) -> Stop<'a>
+/// Why a journal isn't opened as a log with its tiles.
+pub(crate) fn refuse_log<'a>(journal: &'a str, why: LogOpenError) -> Stop<'a>
     ensures { stop_ending result ≡ log_open_ending journal.now why }
 {
     let bad = Stopped::BadForm;
@@ -74,67 +77,29 @@ fn read_header<D: Disk>(disk: &mut D) -> Result<(), OpenError>
     }
 }
 
-// Opens the log on the device of its journal, whose header was read, and on that of its tiles, with
-// a pool of 64 frames that hold nothing. If it isn't opened both are closed.
-fn open_over<'a, H: TreeHash, R: Room>(
-    alloc: Global,
+// Opens the device of the tiles beside that of a journal whose header was read. Where that fails
+// the journal is closed.
+fn open_beside<'a, R: Room>(
     room: &mut R,
     journal: &'a str,
     name: &str,
     disk: R::Dsk,
-    tiles: R::Dsk,
-    pool: Pool,
-) -> Result<Log<H, R::Dsk, R::Dsk>, Stop<'a>>
-    requires both { 1 < R.opened room.old }
-    requires named { name.now ≡ tiles_name journal.now }
-    requires frames { IsNew 64 pool }
-    ensures opened { IfOk result (λ log. (old mid : R)
-        → HasReadHeader R.Room R.Dsk.Disk journal.now old mid disk
-        → (R.is_modelled old → IsNoJournal (R.file old journal.now) → ⊥)
-        → HasOpenedBeside R.Room R.Dsk.Disk (tiles_name journal.now) mid room.old tiles
-        → LogWasOpened R.Room R.Dsk.Disk journal.now old room.new log) }
-    ensures stops { IfErr result (λ stop. (old mid : R)
-        → HasReadHeader R.Room R.Dsk.Disk journal.now old mid disk
-        → (R.is_modelled old → IsNoJournal (R.file old journal.now) → ⊥)
-        → HasOpenedBeside R.Room R.Dsk.Disk (tiles_name journal.now) mid room.old tiles
-        → LogWasNotOpened R.Room R.Dsk.Disk journal.now H.hash old room.new (stop_ending stop)) }
-{
-    match Log::<H, R::Dsk, R::Dsk>::open(alloc, disk, tiles, pool) {
-        Ok(log) => Ok(log),
-        Err(LogRefused { disk, tiles, why }) => {
-            close(room, name, tiles);
-            close(room, journal, disk);
-            Err(refuse_log(journal, why))
-        }
-    }
-}
-
-// Opens the device of the tiles beside that of a journal whose header was read, and the log over
-// both. If it isn't opened all is closed, the journal last: so whoever has the journal has the
-// tiles.
-fn open_beside<'a, H: TreeHash, R: Room>(
-    alloc: Global,
-    room: &mut R,
-    journal: &'a str,
-    name: &str,
-    disk: R::Dsk,
-    pool: Pool,
-) -> Result<Log<H, R::Dsk, R::Dsk>, Stop<'a>>
+) -> Result<(R::Dsk, R::Dsk), Stop<'a>>
     requires some { 0 < R.opened room.old }
     requires opened { R.opened room.old < 2 ^ 32 }
     requires named { name.now ≡ tiles_name journal.now }
-    requires frames { IsNew 64 pool }
-    ensures opened { IfOk result (λ log. (old : R)
+    ensures opened { IfOk result (λ both. (old : R)
         → HasReadHeader R.Room R.Dsk.Disk journal.now old room.old disk
         → (R.is_modelled old → IsNoJournal (R.file old journal.now) → ⊥)
-        → LogWasOpened R.Room R.Dsk.Disk journal.now old room.new log) }
-    ensures stops { IfErr result (λ stop. (old : R)
+        → DevicesWereOpened R.Room R.Dsk.Disk journal.now old room.new both.0 both.1) }
+    ensures stops { IfErr result (λ stop.
+        (h : HashFunction) (says : Text → Text → Outcome) (old : R)
         → HasReadHeader R.Room R.Dsk.Disk journal.now old room.old disk
         → (R.is_modelled old → IsNoJournal (R.file old journal.now) → ⊥)
-        → LogWasNotOpened R.Room R.Dsk.Disk journal.now H.hash old room.new (stop_ending stop)) }
+        → LogWasNotOpened R.Room R.Dsk.Disk journal.now h says old room.new (stop_ending stop)) }
 {
     match open_tiles(room, journal, name) {
-        Ok(tiles) => open_over::<H, R>(alloc, room, journal, name, disk, tiles, pool),
+        Ok(tiles) => Ok((disk, tiles)),
         Err(stop) => {
             close(room, journal, disk);
             Err(stop)
@@ -142,9 +107,54 @@ fn open_beside<'a, H: TreeHash, R: Room>(
     }
 }
 
-/// Opens a journal and the file of its tiles, which is made if it isn't there, and the log over
-/// them. A file that is no journal is refused, and no other file is opened then: no file of tiles
-/// is made beside it. Where no log is opened, all is closed again.
+/// Opens the devices of a journal and of the file of its tiles, which is made if it isn't there. A
+/// file that is no journal is refused, and no other file is opened then: no file of tiles is made
+/// beside it. Where they aren't opened, all is closed again, the journal last: so whoever has the
+/// journal has the tiles.
+///
+/// Errors: what the outcome of any command is then that refuses what is no log.
+pub(crate) fn open_devices<'a, R: Room>(
+    room: &mut R,
+    journal: &'a str,
+    name: &str,
+) -> Result<(R::Dsk, R::Dsk), Stop<'a>>
+    requires opened { R.opened room.old + 1 < 2 ^ 32 }
+    requires named { name.now ≡ tiles_name journal.now }
+    ensures opened { IfOk result (λ both.
+        DevicesWereOpened R.Room R.Dsk.Disk journal.now room.old room.new both.0 both.1) }
+    ensures stops { IfErr result (λ stop. (h : HashFunction) (says : Text → Text → Outcome)
+        → RefusesNoLog h journal.now says
+        → LogWasNotOpened R.Room R.Dsk.Disk journal.now h says room.old room.new
+        (stop_ending stop)) }
+{
+    let mut disk = open_file(room, journal)?;
+    match read_header(&mut disk) {
+        Ok(()) => open_beside(room, journal, name, disk),
+        Err(why) => {
+            close(room, journal, disk);
+            Err(refuse_log(journal, LogOpenError::Open(why)))
+        }
+    }
+}
+
+/// Closes both devices, that of the journal last.
+pub(crate) fn close_devices<R: Room>(
+    room: &mut R,
+    journal: &str,
+    name: &str,
+    disk: R::Dsk,
+    tiles: R::Dsk,
+)
+    requires both { 1 < R.opened room.old }
+    requires named { name.now ≡ tiles_name journal.now }
+    ensures { DevicesWereClosed R.Room R.Dsk.Disk journal.now room.old room.new disk tiles }
+{
+    close(room, name, tiles);
+    close(room, journal, disk);
+}
+
+/// Opens a journal and the file of its tiles, and the log over them, with a pool of 64 frames that
+/// hold nothing. Where no log is opened, all is closed again.
 ///
 /// Errors: what the outcome of any work on that log is then. That the memory for the tiles is taken
 /// before any file is opened is read off the program.
@@ -158,16 +168,17 @@ pub(crate) fn open_log<'a, H: TreeHash, R: Room>(
     requires named { name.now ≡ tiles_name journal.now }
     ensures opened { IfOk result
         (LogWasOpened R.Room R.Dsk.Disk journal.now room.old room.new) }
-    ensures stops { IfErr result (λ stop.
-        LogWasNotOpened R.Room R.Dsk.Disk journal.now H.hash room.old room.new (stop_ending stop)) }
+    ensures stops { IfErr result (λ stop. (work : Work)
+        → LogWasNotOpened R.Room R.Dsk.Disk journal.now H.hash
+        (log_bytes_say H.hash journal.now work) room.old room.new (stop_ending stop)) }
 {
     let pool = Pool::new(alloc, FRAMES)?;
-    let mut disk = open_file(room, journal)?;
-    match read_header(&mut disk) {
-        Ok(()) => open_beside::<H, R>(alloc, room, journal, name, disk, pool),
-        Err(why) => {
-            close(room, journal, disk);
-            Err(refuse_log(journal, LogOpenError::Open(why)))
+    let (disk, tiles) = open_devices(room, journal, name)?;
+    match Log::<H, R::Dsk, R::Dsk>::open(alloc, disk, tiles, pool) {
+        Ok(log) => Ok(log),
+        Err(LogRefused { disk, tiles, why }) => {
+            close_devices(room, journal, name, disk, tiles);
+            Err(refuse_log(journal, why))
         }
     }
 }
@@ -181,9 +192,9 @@ pub(crate) fn close_log<H: TreeHash, R: Room>(
 )
     requires both { 1 < R.opened room.old }
     requires named { name.now ≡ tiles_name journal.now }
-    ensures { LogWasClosed R.Room R.Dsk.Disk journal.now room.old room.new log }
+    ensures { DevicesWereClosed R.Room R.Dsk.Disk journal.now room.old room.new (log_disk log)
+        (log_tiles_disk log) }
 {
     let (disk, tiles) = log.into_disks();
-    close(room, name, tiles);
-    close(room, journal, disk);
+    close_devices(room, journal, name, disk, tiles);
 }

@@ -18,8 +18,8 @@ use tree_core::TreeHash;
 // A full tile of the lowest level has the hashes of so many entries.
 const TILE: u64 = 256;
 
-// The line of tiles up to this size.
-fn text_of_tiles(alloc: Global, size: u64) -> Result<Bytes, Memory>
+/// The line of tiles up to this size.
+pub(crate) fn text_of_tiles(alloc: Global, size: u64) -> Result<Bytes, Memory>
     ensures { IfOk result (λ text. text ≡ tiled_line size) }
 {
     Ok(Bytes::from_vec(format!(in alloc; "tiled {size}\n")?.into_bytes()))

@@ -1,6 +1,7 @@
 use Rattle.std.proofs.Common.{◌∙◌, arith}
 use Rattle.std.proofs.lemmas.Result.{err_from_is_err_and}
 use Rattle.mtc_command.specs.Answers.{ending_of}
+use Rattle.mtc_authority.specs.Works.{log_bytes_say}
 use Rattle.mtc_authority.proofs.Both.{log_stores}
 use Rattle.mtc_authority.proofs.NotOpened.{none_opened}
 use Rattle.mtc_authority.proofs.OpenLogs.{log_keeps_valid, log_only_reads, log_serves, log_spares}
@@ -15,58 +16,70 @@ pub close_log-requires : goal.close_log-requires
 close_log-requires g c =
     let is = c.in_ok-log.ensures.opened in
     record {
-      both = omega (arith, is.header.opened.opened, is.beside.opened);
+      both = omega (arith, is.devices.header.opened.opened, is.devices.beside.opened);
       named = c.deref-2.ensures ∙ c.in_ok-name.ensures;
     }
 
 pub returns-in_err-name-clause-serves : goal.returns-in_err-name-clause-serves
+unfolding Rattle.mtc_authority.specs.Works.log_outcome
 returns-in_err-name-clause-serves g c =
     let refused = err_from_is_err_and c.from_residual.result c.from_residual.ensures.1 in
     let none = none_opened g.R.Room g.R.Dsk.Disk c.args.journal.now g.H.TreeHash.hash
-    c.args.room.now g.met.R.Dsk.Disk.only_now in
-    rw (refused.1, refused.2) (none.serves c.args.work)
+    (log_bytes_say g.H.TreeHash.hash c.args.journal.now c.args.work) c.args.room.now
+    g.met.R.Dsk.Disk.only_now in
+    rw (refused.1, refused.2) (none.serves)
 
 pub returns-in_err-log-clause-serves : goal.returns-in_err-log-clause-serves
+unfolding Rattle.mtc_authority.specs.Works.log_outcome
 returns-in_err-log-clause-serves g c =
     let refused = err_from_is_err_and c.from_residual-in_err-log.result
     c.from_residual-in_err-log.ensures.1 in
-    rw (refused.1, refused.2) (c.in_err-log.ensures.stops.serves c.args.work)
+    rw (refused.1, refused.2) ((c.in_err-log.ensures.stops c.args.work).serves)
 
 pub returns-in_err-name-clause-valid : goal.returns-in_err-name-clause-valid
+unfolding Rattle.mtc_authority.specs.Works.log_outcome
 returns-in_err-name-clause-valid g c =
     let none = none_opened g.R.Room g.R.Dsk.Disk c.args.journal.now g.H.TreeHash.hash
-    c.args.room.now g.met.R.Dsk.Disk.only_now in
-    none.valid c.args.work
+    (log_bytes_say g.H.TreeHash.hash c.args.journal.now c.args.work) c.args.room.now
+    g.met.R.Dsk.Disk.only_now in
+    none.valid
 
 pub returns-in_err-log-clause-valid : goal.returns-in_err-log-clause-valid
-returns-in_err-log-clause-valid g c = c.in_err-log.ensures.stops.valid c.args.work
+unfolding Rattle.mtc_authority.specs.Works.log_outcome
+returns-in_err-log-clause-valid g c = (c.in_err-log.ensures.stops c.args.work).valid
 
 pub returns-in_err-name-clause-only_read : goal.returns-in_err-name-clause-only_read
 returns-in_err-name-clause-only_read g c =
     let none = none_opened g.R.Room g.R.Dsk.Disk c.args.journal.now g.H.TreeHash.hash
-    c.args.room.now g.met.R.Dsk.Disk.only_now in
+    (log_bytes_say g.H.TreeHash.hash c.args.journal.now c.args.work) c.args.room.now
+    g.met.R.Dsk.Disk.only_now in
     λ other. none.only_read
 
 pub returns-in_err-log-clause-only_read : goal.returns-in_err-log-clause-only_read
-returns-in_err-log-clause-only_read g c = λ other. c.in_err-log.ensures.stops.only_read
+returns-in_err-log-clause-only_read g c =
+    λ other. (c.in_err-log.ensures.stops c.args.work).only_read
 
 pub returns-in_err-name-clause-stores : goal.returns-in_err-name-clause-stores
+unfolding Rattle.mtc_authority.specs.Works.log_outcome
 returns-in_err-name-clause-stores g c =
     let none = none_opened g.R.Room g.R.Dsk.Disk c.args.journal.now g.H.TreeHash.hash
-    c.args.room.now g.met.R.Dsk.Disk.only_now in
-    none.stores c.args.work
+    (log_bytes_say g.H.TreeHash.hash c.args.journal.now c.args.work) c.args.room.now
+    g.met.R.Dsk.Disk.only_now in
+    none.stores
 
 pub returns-in_err-log-clause-stores : goal.returns-in_err-log-clause-stores
-returns-in_err-log-clause-stores g c = c.in_err-log.ensures.stops.stores c.args.work
+unfolding Rattle.mtc_authority.specs.Works.log_outcome
+returns-in_err-log-clause-stores g c = (c.in_err-log.ensures.stops c.args.work).stores
 
 pub returns-in_err-name-clause-spares : goal.returns-in_err-name-clause-spares
 returns-in_err-name-clause-spares g c =
     let none = none_opened g.R.Room g.R.Dsk.Disk c.args.journal.now g.H.TreeHash.hash
-    c.args.room.now g.met.R.Dsk.Disk.only_now in
+    (log_bytes_say g.H.TreeHash.hash c.args.journal.now c.args.work) c.args.room.now
+    g.met.R.Dsk.Disk.only_now in
     none.spares
 
 pub returns-in_err-log-clause-spares : goal.returns-in_err-log-clause-spares
-returns-in_err-log-clause-spares g c = c.in_err-log.ensures.stops.spares
+returns-in_err-log-clause-spares g c = (c.in_err-log.ensures.stops c.args.work).spares
 
 pub returns-clause-serves : goal.returns-clause-serves
 returns-clause-serves g c =

@@ -4,7 +4,7 @@ use Rattle.mtc_command.specs.declared.answer.Stop.TheVariants.{Memory}
 use Rattle.mtc_lines.proofs.Outputs.{stopped_before, streams_so}
 use Rattle.mtc_authority.proofs.NotOpened.{none_opened}
 use Rattle.mtc_authority.proofs.OpenLogs.{log_keeps_valid, log_only_reads, log_serves, log_spares}
-use Rattle.mtc_authority.specs.Works.{log_says}
+use Rattle.mtc_authority.specs.Works.{log_bytes_say, log_says}
 use Rattle.mtc_authority.proofs.OpenLogs.{log_stores_both, read_stores}
 use Rattle.mtc_authority.proofs.log_command.stream_log.Goals as goal
 
@@ -16,60 +16,71 @@ pub close_log-requires : goal.close_log-requires
 close_log-requires g c =
     let is = c.in_ok-log.ensures.opened in
     record {
-      both = omega (arith, is.header.opened.opened, is.beside.opened);
+      both = omega (arith, is.devices.header.opened.opened, is.devices.beside.opened);
       named = c.deref-2.ensures ∙ c.in_ok-name.ensures;
     }
 
 pub returns-in_err-name-clause-streams : goal.returns-in_err-name-clause-streams
+unfolding Rattle.mtc_authority.specs.Works.log_outcome
 returns-in_err-name-clause-streams g c =
     let refused = err_from_is_err_and c.from_residual.result c.from_residual.ensures.1 in
     let none = none_opened g.R.Room g.R.Dsk.Disk c.args.journal.now g.H.TreeHash.hash
-    c.args.room.now g.met.R.Dsk.Disk.only_now in
+    (log_bytes_say g.H.TreeHash.hash c.args.journal.now c.args.work) c.args.room.now
+    g.met.R.Dsk.Disk.only_now in
     rw (refused.1, refused.2)
-    (stopped_before g.O.Sink c.args.out.now _ Memory (none.serves c.args.work))
+    (stopped_before g.O.Sink c.args.out.now _ Memory (none.serves))
 
 pub returns-in_err-log-clause-streams : goal.returns-in_err-log-clause-streams
+unfolding Rattle.mtc_authority.specs.Works.log_outcome
 returns-in_err-log-clause-streams g c =
     let refused = err_from_is_err_and c.from_residual-in_err-log.result
     c.from_residual-in_err-log.ensures.1 in
     rw (refused.1, refused.2) (stopped_before g.O.Sink c.args.out.now _ _
-    (c.in_err-log.ensures.stops.serves c.args.work))
+    ((c.in_err-log.ensures.stops c.args.work).serves))
 
 pub returns-in_err-name-clause-valid : goal.returns-in_err-name-clause-valid
+unfolding Rattle.mtc_authority.specs.Works.log_outcome
 returns-in_err-name-clause-valid g c =
     let none = none_opened g.R.Room g.R.Dsk.Disk c.args.journal.now g.H.TreeHash.hash
-    c.args.room.now g.met.R.Dsk.Disk.only_now in
-    none.valid c.args.work
+    (log_bytes_say g.H.TreeHash.hash c.args.journal.now c.args.work) c.args.room.now
+    g.met.R.Dsk.Disk.only_now in
+    none.valid
 
 pub returns-in_err-log-clause-valid : goal.returns-in_err-log-clause-valid
-returns-in_err-log-clause-valid g c = c.in_err-log.ensures.stops.valid c.args.work
+unfolding Rattle.mtc_authority.specs.Works.log_outcome
+returns-in_err-log-clause-valid g c = (c.in_err-log.ensures.stops c.args.work).valid
 
 pub returns-in_err-name-clause-only_read : goal.returns-in_err-name-clause-only_read
 returns-in_err-name-clause-only_read g c =
     let none = none_opened g.R.Room g.R.Dsk.Disk c.args.journal.now g.H.TreeHash.hash
-    c.args.room.now g.met.R.Dsk.Disk.only_now in
+    (log_bytes_say g.H.TreeHash.hash c.args.journal.now c.args.work) c.args.room.now
+    g.met.R.Dsk.Disk.only_now in
     none.only_read
 
 pub returns-in_err-log-clause-only_read : goal.returns-in_err-log-clause-only_read
-returns-in_err-log-clause-only_read g c = c.in_err-log.ensures.stops.only_read
+returns-in_err-log-clause-only_read g c = (c.in_err-log.ensures.stops c.args.work).only_read
 
 pub returns-in_err-name-clause-stores : goal.returns-in_err-name-clause-stores
+unfolding Rattle.mtc_authority.specs.Works.log_outcome
 returns-in_err-name-clause-stores g c =
     let none = none_opened g.R.Room g.R.Dsk.Disk c.args.journal.now g.H.TreeHash.hash
-    c.args.room.now g.met.R.Dsk.Disk.only_now in
-    none.stores c.args.work
+    (log_bytes_say g.H.TreeHash.hash c.args.journal.now c.args.work) c.args.room.now
+    g.met.R.Dsk.Disk.only_now in
+    none.stores
 
 pub returns-in_err-log-clause-stores : goal.returns-in_err-log-clause-stores
-returns-in_err-log-clause-stores g c = c.in_err-log.ensures.stops.stores c.args.work
+unfolding Rattle.mtc_authority.specs.Works.log_outcome
+returns-in_err-log-clause-stores g c = (c.in_err-log.ensures.stops c.args.work).stores
 
 pub returns-in_err-name-clause-spares : goal.returns-in_err-name-clause-spares
 returns-in_err-name-clause-spares g c =
     let none = none_opened g.R.Room g.R.Dsk.Disk c.args.journal.now g.H.TreeHash.hash
-    c.args.room.now g.met.R.Dsk.Disk.only_now in
+    (log_bytes_say g.H.TreeHash.hash c.args.journal.now c.args.work) c.args.room.now
+    g.met.R.Dsk.Disk.only_now in
     none.spares
 
 pub returns-in_err-log-clause-spares : goal.returns-in_err-log-clause-spares
-returns-in_err-log-clause-spares g c = c.in_err-log.ensures.stops.spares
+returns-in_err-log-clause-spares g c = (c.in_err-log.ensures.stops c.args.work).spares
 
 pub returns-clause-streams : goal.returns-clause-streams
 returns-clause-streams g c =

@@ -1,66 +1,60 @@
-use Rattle.std.proofs.Common.{subst, sym}
+use Rattle.std.proofs.Common.{None, Some, ◌≡◌, ◌∙◌, arith, subst, sym}
 use Rattle.std.proofs.lemmas.Result.{err_from_is_err_and}
-use Rattle.journal_core.proofs.FoldSteps.{cause_begin}
-use Rattle.issuance_log.specs.Folds.{log_fold}
-use Rattle.mtc_command.specs.Answers.{Ending, stop_ending}
+use Rattle.mtc_command.specs.Answers.{Ending}
 use Rattle.mtc_authority.specs.OpenLogs.{LogWasNotOpened}
-use Rattle.mtc_authority.proofs.NotOpened.{header_refused, journal_refused, none_opened}
-use Rattle.mtc_authority.proofs.OnlyRead.{is_journal}
-use Rattle.mtc_authority.proofs.OpenLogs.{err_so, ok_so}
+use Rattle.mtc_authority.specs.Works.{log_bytes_say}
+use Rattle.mtc_authority.proofs.NotOpened.{log_refused, none_opened}
+use Rattle.mtc_authority.proofs.Opened.{work_refuses}
 use Rattle.mtc_authority.proofs.opening.open_log.Goals as goal
+
+pub open-requires : goal.open-requires
+open-requires g c = λ slot key holds.
+    let none : None ≡ Some key = sym (c.in_ok-pool.ensures.empty slot) ∙ holds.held in
+    absurd cc
+
+pub close_devices-requires : goal.close_devices-requires
+close_devices-requires g c =
+    let is = c.in_ok-disk.ensures.opened in
+    record {
+      both = omega (arith, is.header.opened.opened, is.beside.opened);
+      named = c.requires.named;
+    }
 
 pub returns-in_err-pool-clause-stops : goal.returns-in_err-pool-clause-stops
 returns-in_err-pool-clause-stops g c =
     let refused = err_from_is_err_and c.from_residual.result c.from_residual.ensures.1 in
-    rw (refused.1, refused.2) (none_opened g.R.Room g.R.Dsk.Disk c.args.journal.now
-    g.H.TreeHash.hash c.args.room.now g.met.R.Dsk.Disk.only_now)
+    let h = g.H.TreeHash.hash in
+    let name = c.args.journal.now in
+    rw (refused.1, refused.2) (λ work. none_opened g.R.Room g.R.Dsk.Disk name h
+    (log_bytes_say h name work) c.args.room.now g.met.R.Dsk.Disk.only_now)
+
+pub returns-in-Ok-clause-opened : goal.returns-in-Ok-clause-opened
+returns-in-Ok-clause-opened g c = record {
+  disk = _;
+  tiles = _;
+  devices = c.in_ok-disk.ensures.opened;
+  is = c.in-Ok.ensures.opened;
+}
 
 pub returns-in_err-disk-clause-stops : goal.returns-in_err-disk-clause-stops
 returns-in_err-disk-clause-stops g c =
     let refused = err_from_is_err_and c.from_residual-in_err-disk.result
     c.from_residual-in_err-disk.ensures.1 in
-    rw (refused.1, refused.2) (journal_refused g.R.Room g.R.Dsk.Disk c.args.journal.now
-    g.H.TreeHash.hash c.args.room.now c.open_file.new.room
-    (stop_ending c.in_err-disk.field-0.0) c.in_err-disk.ensures.stops
-    c.in_err-disk.ensures.refused g.met.R.Dsk.Disk.only_now)
-
-pub returns-in-Ok-clause-opened : goal.returns-in-Ok-clause-opened
-returns-in-Ok-clause-opened g c = ok_so c.open_beside.result
-    c.open_beside.ensures.opened (λ log is. is c.args.room.now
-    (record {
-      opened_disk = c.in_ok-disk.disk;
-      opened = c.in_ok-disk.ensures.opened;
-      only_reads = c.read_header.ensures.only_reads;
-      fine = c.in-Ok.ensures.fine;
-    })
-    (λ t not. is_journal (g.R.Room.file c.args.room.now c.args.journal.now)
-    (g.R.Dsk.Disk.contents c.in_ok-disk.disk) (c.in_ok-disk.ensures.opened.bytes t)
-    c.in-Ok.ensures.ok not))
-
-pub returns-in-Ok-clause-stops : goal.returns-in-Ok-clause-stops
-returns-in-Ok-clause-stops g c = err_so c.open_beside.result
-    c.open_beside.ensures.stops (λ stop is. is c.args.room.now
-    (record {
-      opened_disk = c.in_ok-disk.disk;
-      opened = c.in_ok-disk.ensures.opened;
-      only_reads = c.read_header.ensures.only_reads;
-      fine = c.in-Ok.ensures.fine;
-    })
-    (λ t not. is_journal (g.R.Room.file c.args.room.now c.args.journal.now)
-    (g.R.Dsk.Disk.contents c.in_ok-disk.disk) (c.in_ok-disk.ensures.opened.bytes t)
-    c.in-Ok.ensures.ok not))
-
-pub returns-in-Err-clause-stops : goal.returns-in-Err-clause-stops
-returns-in-Err-clause-stops g c =
     let h = g.H.TreeHash.hash in
     let name = c.args.journal.now in
-    let why = c.in-Err.why in
-    let first = c.in_ok-disk.disk in
-    let disk = c.read_header.new.disk in
-    subst (λ (e : Ending). LogWasNotOpened g.R.Room g.R.Dsk.Disk name h c.args.room.now
-    c.close.new.room e) (sym c.refuse_log.ensures)
-    (header_refused g.R.Room g.R.Dsk.Disk name h c.args.room.now c.open_file.new.room
-    c.close.new.room first disk c.in_ok-disk.ensures.opened c.read_header.ensures.only_reads
-    c.close.ensures g.met.R.Dsk.Disk.only_now why
-    (cause_begin g.R.Dsk.Disk (log_fold h) first disk why c.in-Err.ensures.reason
-    c.in-Err.ensures.kind))
+    rw (refused.1, refused.2) (λ work.
+    c.in_err-disk.ensures.stops h (log_bytes_say h name work) (work_refuses h name work))
+
+pub returns-in-Err-clause-stops : goal.returns-in-Err-clause-stops
+returns-in-Err-clause-stops g c = λ work.
+    let h = g.H.TreeHash.hash in
+    let name = c.args.journal.now in
+    let opened = c.in_ok-disk.ensures.opened in
+    let closed = c.close_devices.ensures in
+    subst (λ (e : Ending). LogWasNotOpened g.R.Room g.R.Dsk.Disk name h (log_bytes_say h name work)
+    c.args.room.now c.close_devices.new.room e) (sym c.refuse_log.ensures)
+    (log_refused g.R.Room g.R.Dsk.Disk name h work c.args.room.now opened.mid
+    c.open_devices.new.room closed.mid c.close_devices.new.room c.in_ok-disk.disk
+    c.in-Err.field-0.disk c.in_ok-disk.tiles c.in-Err.field-0.tiles opened.header opened.is_journal
+    opened.beside closed.beside closed.journal g.met.R.Room.modelled_file c.in-Err.field-0.why
+    c.in-Err.ensures.refused)
