@@ -12,13 +12,13 @@ use Rattle.cosigner_core.specs.Refusals.{cosign_refused, subtree_refusal}
 use Rattle.cosigner_core.specs.Requests.{AdvanceParts, SubtreeParts}
 use Rattle.cosigner_core.specs.declared.error.CosignError.TheVariants.{Append}
 use Rattle.cosigner_core.specs.declared.fault.FormError.{FormError}
-use Rattle.mtc_command.specs.Answers.{Ending, refused, replied, reason_text}
+use Rattle.mtc_command.specs.Answers.{Ending, refused, replied}
 use Rattle.mtc_command.specs.Served.{ClosesAll, HasDone}
 use Rattle.mtc_command.specs.Steps.{Outcome, answers, with_bytes, with_form}
 use Rattle.mtc_command.specs.declared.answer.Stopped.TheVariants.{BadForm}
 use Rattle.mtc_command.proofs.Inputs.{bytes_read}
 use Rattle.mtc_command.proofs.Made.{OnlyNow}
-use Rattle.mtc_command.proofs.Served.{following, stopped}
+use Rattle.mtc_command.proofs.Served.{stopped}
 use Rattle.cosigner_core.specs.Reasons.{form_fault_text}
 
 module _ {F : Type 0} (read : Text → Result F FormError) (next : F → Outcome) (file : Text) where

@@ -1,5 +1,5 @@
 -- A cosigner that is opened on a device.
-use Rattle.std.proofs.Common.{◌≡◌, ◌≤◌, ℕ, List, Option, IfSome, Ok, Err, Some, inl, inr}
+use Rattle.std.proofs.Common.{◌≡◌, List, Option, IfSome, Ok, Err, Some, inl, inr}
 use Rattle.std.proofs.Common.{refl, ap}
 use Rattle.std.proofs.lemmas.Option.{IfSome_then}
 use Rattle.byte_formats.specs.Types.{HashFunction, Text}
@@ -13,7 +13,7 @@ use Rattle.cosigner_core.specs.Openings.{FoundCosigner, HasCosignerCause, cosign
 use Rattle.state_journal.specs.declared.error.StateOpenError.{StateOpenError}
 use Rattle.state_journal.specs.declared.error.StateOpenError.TheVariants.{Open}
 use Rattle.mtc_command.specs.Answers.{no_memory, refused, replied, room_failed}
-use Rattle.mtc_command.specs.Steps.{Outcome, answers, with_form}
+use Rattle.mtc_command.specs.Steps.{Outcome, with_form}
 use Rattle.mtc_command.specs.Works.{HasWorkedOn}
 use Rattle.mtc_command.specs.declared.answer.Stopped.TheVariants.{BadForm}
 use Rattle.mtc_command.proofs.Works.{not_opened}

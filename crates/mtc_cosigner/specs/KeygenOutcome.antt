@@ -1,5 +1,5 @@
 -- The outcome of `keygen HEIGHT WIDTH SECRET`.
-use Rattle.std.specs.Prelude.{ℕ, ◌==◌, nat_lt, ◌++◌, length, codes, if◌then◌else◌, None}
+use Rattle.std.specs.Prelude.{ℕ, ◌==◌, nat_lt, ◌++◌, length, codes, if◌then◌else◌, Option, None}
 use Rattle.std.specs.Fmt.{decimal}
 use Rattle.byte_formats.specs.Types.{Text}
 use Rattle.base64.specs.Engines.{standard}
@@ -20,10 +20,11 @@ lms_type n = if n == 5 then H5 else H10
 abbrev pub ots_type : ℕ → OtsType
 ots_type n = if n == 1 then W1 else (if n == 2 then W2 else (if n == 4 then W4 else W8))
 
--- The line of a secret's public key, in base64.
-abbrev pub public_line : LmsType → OtsType → Text → Text
-public_line lms ots secret =
-    encode_of standard (public_of (signing_key lms None ots secret)) ++ codes "\n"
+-- The line of a secret's public key, in base64. The key has two levels where lower trees have a
+-- height.
+abbrev pub public_line : LmsType → Option LmsType → OtsType → Text → Text
+public_line lms low ots secret =
+    encode_of standard (public_of (signing_key lms low ots secret)) ++ codes "\n"
 
 -- A secret file has 48 bytes: 16 of identifier and 32 of seed.
 abbrev pub with_secret : Text → Text → Outcome → Outcome
@@ -34,7 +35,8 @@ with_secret file secret next =
 -- The public key of the secret, where it is one.
 abbrev pub keygen_says : ℕ → ℕ → Text → Text → Outcome
 keygen_says height width file secret =
-    with_secret file secret (says Done (public_line (lms_type height) (ots_type width) secret))
+    with_secret file secret
+    (says Done (public_line (lms_type height) None (ots_type width) secret))
 
 -- The outcome of `keygen HEIGHT WIDTH SECRET`: the secret is read, at most 16 MiB of the file.
 abbrev pub keygen_outcome : ℕ → ℕ → Text → Files → Outcome

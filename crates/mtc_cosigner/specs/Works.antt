@@ -16,11 +16,12 @@ use Rattle.mtc_command.specs.Steps.{Outcome, Files, with_bytes, with_file, with_
 use Rattle.mtc_command.specs.Valid.{WorksValidly}
 use Rattle.mtc_command.specs.Works.{HasWorked as HasWorkedWith}
 use Rattle.mtc_command.specs.declared.answer.Stopped.TheVariants.{BadForm}
-use Rattle.mtc_cosigner.specs.CosignerOutcomes.{advance_says, cosign_says, export_says}
+use Rattle.mtc_cosigner.specs.CosignerOutcomes.{advance_says, child_says, cosign_says}
+use Rattle.mtc_cosigner.specs.CosignerOutcomes.{export_says}
 use Rattle.cosigner_core.specs.Reasons.{form_fault_text}
 use Rattle.state_journal.specs.Reasons.{state_open_text}
 use Rattle.mtc_cosigner.specs.declared.work.Work.{Work}
-use Rattle.mtc_cosigner.specs.declared.work.Work.TheVariants.{Advance, Cosign}
+use Rattle.mtc_cosigner.specs.declared.work.Work.TheVariants.{Advance, Child, Cosign}
 
 -- What comes of it: the line says that the file is none, unless the device failed or memory was
 -- refused.
@@ -36,6 +37,7 @@ found_cosigner state list = record { records = list; state = state }
 -- What a command has to reply over a cosigner that was found.
 unfoldable pub cosigner_says : HashFunction → Work → FoundCosigner → Outcome
 cosigner_says h (Advance request) found = advance_says h (advance_parts request) found
+cosigner_says h Child found = child_says found
 cosigner_says h (Cosign request) found = cosign_says h (subtree_parts request) found
 
 -- The outcome of a command on the cosigner of a journal with these bytes.
@@ -58,6 +60,10 @@ unfoldable pub cosign_outcome : HashFunction → Text → Text → Files → Out
 cosign_outcome h journal request files = with_bytes 16777216 request (files request)
     (λ bytes. with_form form_fault_text request (subtree_in bytes)
     (λ r. cosigner_outcome h journal (files journal) (cosign_says h r)))
+
+-- The outcome of `child S`.
+unfoldable pub child_outcome : HashFunction → Text → Files → Outcome
+child_outcome h journal files = cosigner_outcome h journal (files journal) child_says
 
 -- The outcome of `export S`.
 unfoldable pub export_outcome : HashFunction → Text → Files → Outcome

@@ -1,8 +1,8 @@
 //! The command `export`: what others may know of a cosigner.
 
-ghost use Rattle.std.specs.Prelude.{◌<◌, ◌^◌, [], ◌∷◌};
+ghost use Rattle.std.specs.Prelude.{◌≡◌, ◌<◌, ◌^◌, [], ◌∷◌};
 ghost use Rattle.cosigner_core.specs.Keyless.{keyless_owner};
-ghost use Rattle.cosigner_core.specs.Words.{cosigner_disk, cosigner_owner};
+ghost use Rattle.hss_keys.specs.Keys.{public_of};
 ghost use Rattle.mtc_command.specs.Served.{HasServed};
 ghost use Rattle.mtc_command.specs.Valid.{KeepsValid, ServesValidly};
 ghost use Rattle.mtc_command.specs.Works.{HasWorkedOn};
@@ -12,8 +12,9 @@ ghost use Rattle.mtc_cosigner.specs.Works.{HasWorkedOnCosigner, IsCosigner, Stay
 ghost use Rattle.mtc_cosigner.specs.Works.{cosigner_bytes_say, export_outcome};
 
 use crate::cosigner_command::refuse_cosigner;
-use cosigner_core::{Cosigner, ExportError, KeylessCosigner};
+use cosigner_core::{ExportError, KeylessCosigner};
 use disk_core::Disk;
+use hss_core::PUBLIC_KEY_LEN;
 use journal_core::Refused;
 use mtc_command::{Stop, close, open_file};
 use mtc_io::{Failed, Sink};
@@ -22,41 +23,43 @@ use mtc_room::Room;
 use std::alloc::Global;
 use tree_core::TreeHash;
 
-// Writes the export of a cosigner while it reads its journal.
+// Writes the export of a cosigner with this public key while it reads its journal.
 fn export_on<'a, H: TreeHash, D: Disk, O: Sink>(
     journal: &'a str,
-    cosigner: &mut Cosigner<H, D>,
+    cosigner: &mut KeylessCosigner<H, D>,
+    public: &[u8; PUBLIC_KEY_LEN],
     out: &mut O,
 ) -> Result<Written, Stop<'a>>
+    requires { public.now ≡ public_of (keyless_owner cosigner.old).state.key.key }
     ensures streams { Streams O.Sink out.old out.new (HasWorkedOnCosigner D.Disk journal.now
-        export_says (cosigner_owner cosigner.old) (cosigner_disk cosigner.new)) result }
-    ensures valid { StaysCosigner D.Disk H.hash export_says (cosigner_owner cosigner.old)
-        (cosigner_disk cosigner.new) }
+        export_says (keyless_owner cosigner.old) (keyless_owner cosigner.new).disk) result }
+    ensures valid { StaysCosigner D.Disk H.hash export_says (keyless_owner cosigner.old)
+        (keyless_owner cosigner.new).disk }
 {
-    match cosigner.export(out) {
+    match cosigner.export_with(public, out) {
         Ok(()) => Ok(Ok(())),
         Err(ExportError::Read) => Err(Stop::Room(journal)),
         Err(ExportError::Write) => Ok(Err(Failed)),
     }
 }
 
-// Makes the key of a cosigner, writes its export, and returns its device.
+// Makes the public key of a cosigner, writes its export, and returns its device.
 fn export_keyless<'a, H: TreeHash, D: Disk, O: Sink>(
     alloc: Global,
     journal: &'a str,
-    keyless: KeylessCosigner<H, D>,
+    mut keyless: KeylessCosigner<H, D>,
     out: &mut O,
 ) -> (D, Result<Written, Stop<'a>>)
     ensures streams { Streams O.Sink out.old out.new (HasWorkedOnCosigner D.Disk journal.now
         export_says (keyless_owner keyless) result.0) result.1 }
     ensures valid { StaysCosigner D.Disk H.hash export_says (keyless_owner keyless) result.0 }
 {
-    match Cosigner::with_key(alloc, keyless) {
-        Ok(mut cosigner) => {
-            let written = export_on(journal, &mut cosigner, out);
-            (cosigner.into_disk(), written)
+    match keyless.public(alloc) {
+        Ok(public) => {
+            let written = export_on(journal, &mut keyless, &public, out);
+            (keyless.into_disk(), written)
         }
-        Err(Refused { disk, .. }) => (disk, Err(Stop::Memory)),
+        Err(_) => (keyless.into_disk(), Err(Stop::Memory)),
     }
 }
 

@@ -1,6 +1,6 @@
-//! The command `init-cosigner`: a new cosigner.
+//! The commands `init-cosigner` and `init-cosigner2`: a new cosigner.
 
-ghost use Rattle.std.specs.Prelude.{◌≡◌, ◌<◌, ◌^◌, true, [], ◌∷◌};
+ghost use Rattle.std.specs.Prelude.{◌≡◌, ◌<◌, ◌^◌, true, [], ◌∷◌, IfSome};
 ghost use Rattle.byte_formats.specs.Types.{HashFunction};
 ghost use Rattle.lms_core.specs.Heights.{IsSigningHeight};
 ghost use Rattle.mtc_words.specs.Commands.{is_height, is_width};
@@ -11,7 +11,7 @@ ghost use Rattle.mtc_command.specs.Works.{ModelsNew};
 ghost use Rattle.mtc_cosigner.specs.InitOutcome.{init_cosigner_outcome, init_says};
 ghost use Rattle.mtc_cosigner.specs.Works.{IsCosigner};
 
-use crate::keygen::{chains_of_width, line_of_key, refuse_secret, tree_of_height};
+use crate::keygen::{chains_of_width, line_of_key, lower_of_height, refuse_secret, tree_of_height};
 use cosigner_core::{CosignerSettings, pack};
 use hss_core::Secret;
 use mtc_command::{Answer, INPUT_LIMIT, Stop, make_journal, read_input};
@@ -30,6 +30,7 @@ fn init_with<'a, R: Room>(
 ) -> Result<Answer, Stop<'a>>
     requires opened { R.opened room.old < 2 ^ 32 }
     requires signs { IsSigningHeight settings.now.lms }
+    requires low { IfSome settings.now.low IsSigningHeight }
     ensures serves { HasServed R.Room R.Dsk.Disk (journal.now ∷ (file.now ∷ [])) journal.now
         (init_says journal.now settings.now file.now (R.file room.old journal.now) secret.now)
         room.old room.new (ending_of result) }
@@ -41,7 +42,7 @@ fn init_with<'a, R: Room>(
 {
     match Secret::from_slice(secret) {
         Some(secret) => {
-            let text = line_of_key(alloc, settings.lms, settings.ots, &secret)?;
+            let text = line_of_key(alloc, settings.lms, settings.low, settings.ots, &secret)?;
             let first = pack(alloc, settings, &secret)?;
             make_journal(room, journal, first, text)
         }
@@ -49,34 +50,38 @@ fn init_with<'a, R: Room>(
     }
 }
 
-/// The command `init-cosigner S ID LOGID HEIGHT WIDTH SECRET`. The secret file is read and tested
-/// before the journal is made.
+/// The command `init-cosigner S ID LOGID HEIGHT WIDTH SECRET`, or
+/// `init-cosigner2 S ID LOGID TOP LOW WIDTH SECRET`, where lower trees have a height. The secret
+/// file is read and tested before the journal is made.
 pub fn init_cosigner<'a, R: Room>(
     alloc: Global,
     room: &mut R,
     journal: &'a str,
     id: AnchorId,
     log: AnchorId,
-    height: u64,
+    top: u64,
+    low: Option<u64>,
     width: u64,
     file: &'a str,
 ) -> Result<Answer, Stop<'a>>
     requires opened { R.opened room.old < 2 ^ 32 }
-    requires height { is_height height ≡ true }
+    requires top { is_height top ≡ true }
+    requires low { IfSome low (λ height. is_height height ≡ true) }
     requires width { is_width width ≡ true }
     ensures serves { HasServed R.Room R.Dsk.Disk (journal.now ∷ (file.now ∷ [])) journal.now
-        (init_cosigner_outcome journal.now id log height width file.now (R.file room.old))
+        (init_cosigner_outcome journal.now id log top low width file.now (R.file room.old))
         room.old room.new (ending_of result) }
     ensures valid { (h : HashFunction)
         → KeepsValid R.Room R.Dsk.Disk (IsCosigner h) (journal.now ∷ [])
-        (init_cosigner_outcome journal.now id log height width file.now (R.file room.old))
+        (init_cosigner_outcome journal.now id log top low width file.now (R.file room.old))
         room.old room.new }
     ensures begins { ModelsNew R.Room R.Dsk.Disk journal.now room.old room.new (ending_of result) }
 {
     let settings = CosignerSettings {
         id,
         log,
-        lms: tree_of_height(height),
+        lms: tree_of_height(top),
+        low: lower_of_height(low),
         ots: chains_of_width(width),
     };
     let secret = read_input(alloc, room, file, INPUT_LIMIT)?;

@@ -1,7 +1,7 @@
 //! The command `keygen`: the public key of a secret.
 
 ghost use Rattle.std.specs.Prelude.{◌≡◌, ◌<◌, ◌^◌, true, [], ◌∷◌, ◌++◌, IfOk, codes, nat_lt};
-ghost use Rattle.std.specs.Prelude.{if◌then◌else◌, string_bytes};
+ghost use Rattle.std.specs.Prelude.{if◌then◌else◌, string_bytes, IfSome, option_map};
 ghost use Rattle.std.specs.Fmt.{decimal};
 ghost use Rattle.base64.specs.GeneralPurpose.{encode_of};
 ghost use Rattle.base64.specs.Engines.{standard};
@@ -33,6 +33,18 @@ pub(crate) fn tree_of_height(height: u64) -> LmsType
     }
 }
 
+// The type of lower trees, if they have a height.
+pub(crate) fn lower_of_height(low: Option<u64>) -> Option<LmsType>
+    requires { IfSome low (λ height. is_height height ≡ true) }
+    ensures is { result ≡ option_map lms_type low }
+    ensures signs { IfSome result IsSigningHeight }
+{
+    match low {
+        Some(height) => Some(tree_of_height(height)),
+        None => None,
+    }
+}
+
 pub(crate) fn chains_of_width(width: u64) -> OtsType
     requires { is_width width ≡ true }
     ensures { result ≡ ots_type width }
@@ -52,17 +64,19 @@ fn in_base64(alloc: Global, bytes: &[u8]) -> Result<String, AllocError>
     STANDARD.encode(alloc, bytes)
 }
 
-// The line of a secret's public key.
+// The line of a secret's public key. A key of two levels has no lower tree yet.
 pub(crate) fn line_of_key(
     alloc: Global,
     tree: LmsType,
+    low: Option<LmsType>,
     chains: OtsType,
     secret: &Secret,
 ) -> Result<Bytes, Memory>
-    requires { IsSigningHeight tree }
-    ensures { IfOk result (λ text. text ≡ public_line tree chains secret.now) }
+    requires small { IsSigningHeight tree }
+    requires low { IfSome low IsSigningHeight }
+    ensures { IfOk result (λ text. text ≡ public_line tree low chains secret.now) }
 {
-    let key = HssKey::make(alloc, tree, None, chains, secret, 0, 0)?;
+    let key = HssKey::make(alloc, tree, low, chains, secret, 0, 0)?;
     let text = in_base64(alloc, &key.public())?;
     Ok(Bytes::from_vec(format!(in alloc; "{text}\n")?.into_bytes()))
 }
@@ -95,7 +109,7 @@ fn answer_of<'a>(
     match Secret::from_slice(secret) {
         Some(secret) => Ok(Answer {
             status: Said::Done,
-            text: line_of_key(alloc, tree, chains, &secret)?,
+            text: line_of_key(alloc, tree, None, chains, &secret)?,
         }),
         None => Err(refuse_secret(file, secret.len())),
     }

@@ -1,4 +1,5 @@
-//! The commands of a cosigner: `keygen`, `init-cosigner`, `advance`, `cosign` and `export`.
+//! The commands of a cosigner: `keygen`, `init-cosigner`, `init-cosigner2`, `advance`, `child`,
+//! `cosign` and `export`.
 //!
 //! A journal is opened by the file system and read as a cosigner's, worked on and closed
 //! ([`on_cosigner`]); what is done with the cosigner is a [`Work`]. `export` writes its text while
@@ -9,6 +10,7 @@
 //! law of the crate `mtc_laws` does, over `relying_party::law_cosignatures_count`.
 #![tactic(auto)]
 
+pub mod child;
 mod cosigner_command;
 pub mod export;
 pub mod init_cosigner;

@@ -46,6 +46,7 @@ fn refuse_step<'a>(journal: &'a str, why: CosignError) -> Stop<'a>
         CosignError::BadSubtree => refuse(refused, Reason::named("BadSubtree")),
         CosignError::Beyond(held) => refuse(refused, Reason::with_number("Beyond", held)),
         CosignError::BadProof => refuse(refused, Reason::named("BadProof")),
+        CosignError::NeedsChild => refuse(refused, Reason::named("NeedsChild")),
         CosignError::Exhausted => refuse(refused, Reason::named("Exhausted")),
         CosignError::Append(AppendError::Full) => {
             refuse(Stopped::Beyond, Reason::named("JournalFull"))

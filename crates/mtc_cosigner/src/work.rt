@@ -6,6 +6,7 @@ ghost use Rattle.mtc_command.specs.Answers.{ending_of};
 ghost use Rattle.mtc_cosigner.specs.Works.{HasWorkedOnCosigner, IsReadyCosigner, StaysCosigner};
 ghost use Rattle.mtc_cosigner.specs.Works.{cosigner_says};
 
+use crate::child::child_on;
 use crate::requests::{advance_on, cosign_on};
 use cosigner_core::{AdvanceRequest, Cosigner, KeylessCosigner, SubtreeRequest};
 use disk_core::Disk;
@@ -19,6 +20,8 @@ use tree_core::TreeHash;
 pub enum Work<'r> {
     /// It holds the root of a larger log.
     Advance(AdvanceRequest<'r>),
+    /// It has the next lower tree of its key.
+    Child,
     /// It signs a subtree.
     Cosign(SubtreeRequest<'r>),
 }
@@ -41,6 +44,10 @@ pub(crate) fn carry_out<'a, H: TreeHash, D: Disk>(
     match work {
         Work::Advance(request) => {
             let answer = advance_on(alloc, journal, &mut keyless, request);
+            (keyless.into_disk(), answer)
+        }
+        Work::Child => {
+            let answer = child_on(alloc, journal, &mut keyless);
             (keyless.into_disk(), answer)
         }
         Work::Cosign(request) => match Cosigner::with_key(alloc, keyless) {

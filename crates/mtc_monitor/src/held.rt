@@ -7,7 +7,8 @@ ghost use Rattle.mtc_command.specs.Served.{HasAnswered};
 ghost use Rattle.mtc_monitor.specs.HeldOutcome.{held_outcome, held_says};
 
 use crate::held_lines::held_lines;
-use cosigner_core::{ReadExportError, read_export};
+use cosigner_core::ReadExportError;
+use cosigner_steps::read_steps;
 use mtc_command::{Answer, LIST_LIMIT, Said, Stop, Stopped, read_input, refuse_file};
 use mtc_lines::export_reason;
 use mtc_room::Room;
@@ -22,7 +23,7 @@ fn held_answer<'a, H: TreeHash>(
 ) -> Result<Answer, Stop<'a>>
     ensures { Replies (held_says H.hash export.now bytes.now).answer (ending_of result) }
 {
-    match read_export::<H>(alloc, bytes) {
+    match read_steps::<H>(alloc, bytes) {
         Ok(kept) => Ok(Answer {
             status: Said::Done,
             text: held_lines::<H>(alloc, kept.as_ref())?,

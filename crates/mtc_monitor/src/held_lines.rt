@@ -1,52 +1,64 @@
 //! The lines of what an export says.
 
-ghost use Rattle.std.specs.Prelude.{◌≡◌, ◌++◌, None, IfOk, OnOk, option_map, string_bytes};
+ghost use Rattle.std.specs.Prelude.{◌≡◌, ◌++◌, IfOk, OnOk, option_and_then, option_map};
+ghost use Rattle.std.specs.Prelude.{string_bytes};
 ghost use Rattle.std.specs.List.{flat_map};
 ghost use Rattle.base64.specs.Engines.{standard};
 ghost use Rattle.base64.specs.GeneralPurpose.{encode_of};
 ghost use Rattle.cosigner_core.specs.ExportReading.{signing_terms};
-ghost use Rattle.cosigner_core.specs.Progress.{first_progress, keys_by};
-ghost use Rattle.cosigner_core.specs.declared.progress.Progress.{Progress};
+ghost use Rattle.cosigner_core.specs.Progress.{first_progress};
 ghost use Rattle.cosigner_steps.specs.Steps.{with_steps};
 ghost use Rattle.mtc_io.specs.Streams.{joined};
 ghost use Rattle.mtc_lines.specs.CheckpointLines.{checkpoint_lines};
-ghost use Rattle.mtc_monitor.specs.HeldOutcome.{held_text, left_line, party_lines};
+ghost use Rattle.mtc_monitor.specs.HeldOutcome.{all_keys, held_text, left_line, party_lines};
 ghost use Rattle.mtc_monitor.specs.HeldOutcome.{progress_lines, signed_line, signs_line};
 
 use base64::engine::general_purpose::STANDARD;
 use cosigner_core::{Checkpoint, Export, Step};
-use hss_core::read_key;
+use hss_core::{LmsType, read_key};
 use mtc_io::{Bytes, Memory};
 use mtc_lines::checkpoint_text;
 use std::alloc::{AllocError, Global};
 use tree_core::TreeHash;
 
-// What a cosigner holds, and how many signatures it has made.
+// What a cosigner holds, how many signatures it has made, and how many lower trees it has, with
+// their height if there are any.
 #[derive(Clone, Copy)]
 struct Reached {
     held: Checkpoint,
     signs: u64,
+    children: u64,
+    low: Option<LmsType>,
 }
 
-// How many one-time keys there are, where the public key says it.
+// How many one-time keys sign messages in all, by the levels that the public key names.
 #[tactic(auto, unfolding(cosigner_core::specs::ExportReading::signing_terms))]
-fn key_count(public: &[u8]) -> Option<u32>
-    ensures { (p : Progress) → result
-        ≡ option_map (λ terms. keys_by terms p) (signing_terms public.now) }
+fn key_count(public: &[u8], shown: Option<LmsType>) -> Option<u64>
+    ensures { result ≡ option_and_then (λ terms. all_keys terms shown) (signing_terms public.now) }
 {
     match read_key(public) {
-        Some((1, lms, _)) if lms.is_signing_height() => Some(lms.leaves()),
+        Some((1, lms, _)) if lms.is_signing_height() => Some(u64::from(lms.leaves())),
+        Some((2, lms, _)) if lms.is_signing_height() => match shown {
+            Some(low) => Some(u64::from(lms.leaves()) * u64::from(low.leaves())),
+            None => None,
+        },
         _ => None,
     }
 }
 
 // How far the steps bring a cosigner that holds nothing.
 fn steps_made<H: TreeHash>(steps: &[Step]) -> Reached
-    ensures { record { held = result.held; next = result.signs; children = 0; low = None }
-        ≡ with_steps (first_progress H.hash) steps.now }
+    ensures { record {
+      held = result.held;
+      next = result.signs;
+      children = result.children;
+      low = result.low;
+    } ≡ with_steps (first_progress H.hash) steps.now }
 {
     let mut held = Checkpoint::empty::<H>();
     let mut signs = 0;
+    let mut children = 0;
+    let mut low = None;
     for step in steps {
         match step {
             Step::Advance { size, root, .. } => {
@@ -56,9 +68,18 @@ fn steps_made<H: TreeHash>(steps: &[Step]) -> Reached
                 };
             }
             Step::Sign { .. } => signs += 1,
+            Step::Child { low: height, .. } => {
+                children += 1;
+                low = Some(*height);
+            }
         }
     }
-    Reached { held, signs }
+    Reached {
+        held,
+        signs,
+        children,
+        low,
+    }
 }
 
 fn in_base64(alloc: Global, bytes: &[u8]) -> Result<String, AllocError>
@@ -98,14 +119,14 @@ fn put_party(alloc: Global, out: &mut Bytes, export: &Export) -> Result<(), Memo
     )
 }
 
-// How many one-time keys have not signed, where the public key says how many there are.
-fn put_left(alloc: Global, out: &mut Bytes, keys: Option<u32>, signs: u64) -> Result<(), Memory>
+// How many one-time keys have not signed, where it is known how many there are.
+fn put_left(alloc: Global, out: &mut Bytes, keys: Option<u64>, signs: u64) -> Result<(), Memory>
     ensures { OnOk result (out.new ≡ out.old ++ left_line keys signs) }
 {
     let Some(keys) = keys else {
         return Ok(());
     };
-    let left = (keys as u64).saturating_sub(signs);
+    let left = keys.saturating_sub(signs);
     let text = format!(in alloc; "left {left}\n")?;
     out.append(text.as_bytes())
 }
@@ -115,7 +136,7 @@ fn put_step(alloc: Global, out: &mut Bytes, step: &Step) -> Result<(), Memory>
     ensures { OnOk result (out.new ≡ out.old ++ signed_line step.now) }
 {
     match step {
-        Step::Advance { .. } => Ok(()),
+        Step::Advance { .. } | Step::Child { .. } => Ok(()),
         Step::Sign {
             index,
             start,
@@ -164,7 +185,8 @@ fn put_progress<H: TreeHash>(alloc: Global, out: &mut Bytes, export: &Export) ->
     let reached = steps_made::<H>(steps);
     put_checkpoint(alloc, out, &reached.held)?;
     put_signs(alloc, out, reached.signs)?;
-    put_left(alloc, out, key_count(&export.public), reached.signs)?;
+    let keys = key_count(&export.public, reached.low);
+    put_left(alloc, out, keys, reached.signs)?;
     put_steps(alloc, out, steps)
 }
 

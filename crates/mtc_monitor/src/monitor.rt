@@ -23,10 +23,12 @@ use entry_list::ItemsError;
 use monitor_core::{
     MonitorError, Run, State, TextError, Watch, read_state, read_watch, write_found, write_state,
 };
-use mtc_command::{Answer, INPUT_LIMIT, Said, Stop, Stopped, read_input, refuse, refuse_file};
+use mtc_command::{
+    Answer, INPUT_LIMIT, LIST_LIMIT, Said, Stop, Stopped, read_input, refuse, refuse_file,
+};
 use mtc_lines::{form_reason, items_reason};
 use mtc_room::Room;
-use mtc_streams::{ENTRIES_LIMIT, fold_input};
+use mtc_streams::fold_input;
 use std::alloc::Global;
 use tls_wire::AnchorId;
 use tree_core::TreeHash;
@@ -164,7 +166,7 @@ fn watched<'a, H: TreeHash, R: Room>(
         (advance_parts asked.entry.request) entries.now)) room.old room.new (ending_of result) }
 {
     let mut run: Run<H> = Run::new(alloc, asked.state, asked.watch);
-    let counted = fold_input::<H, _, _>(alloc, room, entries, ENTRIES_LIMIT, &mut run)?;
+    let counted = fold_input::<H, _, _>(alloc, room, entries, LIST_LIMIT, &mut run)?;
     new_items_answer(alloc, entries, counted, run, &asked.request)
 }
 
@@ -182,7 +184,7 @@ fn unwatched<'a, H: TreeHash, R: Room>(
         (with_bytes 8589934592 entries.now (R.file room.old entries.now) wanted) room.old room.new
         (ending_of result) }
 {
-    let _read = fold_input::<H, _, _>(alloc, room, entries, ENTRIES_LIMIT, &mut ())?;
+    let _read = fold_input::<H, _, _>(alloc, room, entries, LIST_LIMIT, &mut ())?;
     Err(stop)
 }
 

@@ -11,11 +11,11 @@ ghost use Rattle.mtc_monitor.specs.RootOutcome.{root_outcome, root_says, root_te
 
 use entry_list::ItemsError;
 use entry_stream::ItemFold;
-use mtc_command::{Answer, Said, Stop, Stopped, refuse_file};
+use mtc_command::{Answer, LIST_LIMIT, Said, Stop, Stopped, refuse_file};
 use mtc_io::{Bytes, Memory};
 use mtc_lines::{checkpoint_text, items_reason};
 use mtc_room::Room;
-use mtc_streams::{ENTRIES_LIMIT, fold_input};
+use mtc_streams::fold_input;
 use std::alloc::Global;
 use tree_core::TreeHash;
 use tree_peaks::Peaks;
@@ -60,6 +60,6 @@ pub fn root<'a, H: TreeHash, R: Room>(
         (root_outcome H.hash entries.now (R.file room.old)) room.old room.new (ending_of result) }
 {
     let mut peaks: Peaks<H> = Peaks::new();
-    let read = fold_input::<H, _, _>(alloc, room, entries, ENTRIES_LIMIT, &mut peaks)?;
+    let read = fold_input::<H, _, _>(alloc, room, entries, LIST_LIMIT, &mut peaks)?;
     root_answer(alloc, entries, read, &peaks)
 }

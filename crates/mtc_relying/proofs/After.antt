@@ -83,7 +83,7 @@ module _ (h : HashFunction) (unix_time : ℕ) (cert store entries export : Text)
 
   -- The same where those from here on hold this, and the bytes of the ones before are known.
   abbrev pub of_export : Option Text → Text → Text → Text → Outcome
-  of_export fx c s e = with_bytes 1073741824 export fx (λ x. says c s e x)
+  of_export fx c s e = with_bytes 8589934592 export fx (λ x. says c s e x)
 
   abbrev pub of_entries : Option Text → Option Text → Text → Text → Outcome
   of_entries fe fx c s = with_bytes 8589934592 entries fe (λ e. of_export fx c s e)
@@ -161,7 +161,7 @@ module _ (h : HashFunction) (unix_time : ℕ) (cert store entries export : Text)
 
     -- or the rest of the command comes after both
     pub after_export : (fc fs fx : InputFile) (c s x : Text)
-        → (rooms.is_modelled old → (rooms.file old export ≡ Some x) × (length x ≤ 1073741824))
+        → (rooms.is_modelled old → (rooms.file old export ≡ Some x) × (length x ≤ 8589934592))
         → fc ≡ record { name = cert; text = c } → fs ≡ record { name = store; text = s }
         → fx ≡ record { name = export; text = x }
         → HasAnswered rooms disks (entries ∷ [])
@@ -175,7 +175,7 @@ module _ (h : HashFunction) (unix_time : ℕ) (cert store entries export : Text)
         let so : rooms.is_modelled old → next ≡ (λ e. of_export (rooms.file old export) c s e) =
         λ t i e. ((λ j. audit_store_says h (at_c j) (at_s j) unix_time
         (record { name = entries; text = e }) (at_x j))
-        ∙ sym (bytes_read 1073741824 export (rooms.file old export) x (λ y. says c s e y)
+        ∙ sym (bytes_read 8589934592 export (rooms.file old export) x (λ y. says c s e y)
         (is_x t).0 (is_x t).1)) i in
         following rooms disks names (entries ∷ []) [] [] (of_both c s)
         (with_bytes 8589934592 entries (rooms.file mid entries) next) old mid new ending read

@@ -135,11 +135,11 @@ with_input limit name files next =
     with_bytes limit name (files name) (λ text. next (record { name = name; text = text }))
 
 -- The outcome of `audit CERT STORE NOW ENTRIES EXPORT`: the four files are read in this order,
--- certificate and store at most 16 MiB each, entries 8 GiB, the export 1 GiB.
+-- certificate and store at most 16 MiB each, entries and the export 8 GiB each.
 abbrev pub audit_outcome : HashFunction → Text → Text → ℕ → Text → Text → Files → Outcome
 audit_outcome h cert store unix_time entries export files =
     with_input 16777216 cert files
     (λ c. with_input 16777216 store files
     (λ s. with_input 8589934592 entries files
-    (λ e. with_input 1073741824 export files
+    (λ e. with_input 8589934592 export files
     (λ x. audit_store_says h c s unix_time e x))))

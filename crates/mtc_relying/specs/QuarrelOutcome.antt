@@ -45,7 +45,7 @@ abbrev pub quarrel_says : HashFunction → Text → Text → Outcome
 quarrel_says h export text =
     with_form export_fault_text export (export_in h text) (quarrel_kept h)
 
--- The outcome of `quarrel EXPORT`: the file is read, at most 1 GiB of it.
+-- The outcome of `quarrel EXPORT`: the file is read, at most 8 GiB of it.
 abbrev pub quarrel_outcome : HashFunction → Text → Files → Outcome
 quarrel_outcome h export files =
-    with_bytes 1073741824 export (files export) (quarrel_says h export)
+    with_bytes 8589934592 export (files export) (quarrel_says h export)

@@ -22,18 +22,18 @@ ghost use Rattle.mtc_relying.specs.Views.{accepted_parts, input_file};
 use crate::accepted::AcceptedCert;
 use crate::claim::{Claim, Judged};
 use crate::comparing::compared;
-use crate::exported::kept_in;
 use crate::input::Input;
 use crate::reasons::store_reason;
 use crate::verify::verdict_answer;
 use cert_fields::parse;
 use cosigner_core::{Export, ReadExportError};
+use cosigner_steps::read_steps;
 use mtc_command::{Answer, INPUT_LIMIT, LIST_LIMIT, Stop, Stopped, read_input, refuse_file};
 use mtc_io::Bytes;
 use mtc_lines::export_reason;
 use mtc_proof::read_proof;
 use mtc_room::Room;
-use mtc_streams::{ENTRIES_LIMIT, fold_input};
+use mtc_streams::fold_input;
 use policy_core::{Refusal, StoreError, ValidStore};
 use relying_party::judge_cert;
 use std::alloc::Global;
@@ -103,7 +103,7 @@ fn export_judged<'a, 'b, H: TreeHash>(
         (audit_export_says H.hash (input_file cert.entry) now (input_file export.entry) store))
         → LeavesOf H.hash entries wanted result }
 {
-    match kept_in::<H>(alloc, export.bytes) {
+    match read_steps::<H>(alloc, export.bytes) {
         Ok(kept) => cert_judged::<H>(alloc, cert, now, store, kept),
         Err(ReadExportError::Memory) => Judged::Ends(Err(Stop::Memory)),
         Err(why) => {
@@ -182,7 +182,7 @@ pub fn audit<'a, H: TreeHash, R: Room>(
             compared::<H, R>(alloc, room, entries, judged)
         }
         Err(stop) => {
-            let _read = fold_input::<H, R, ()>(alloc, room, entries, ENTRIES_LIMIT, &mut ())?;
+            let _read = fold_input::<H, R, ()>(alloc, room, entries, LIST_LIMIT, &mut ())?;
             Err(stop)
         }
     }

@@ -16,10 +16,10 @@ use crate::found::{answer_to, audited};
 use audit_stream::{Summary, decided, summary_of, summing};
 use entry_list::{ItemsError, read_items};
 use entry_stream::{Both, ItemAt, ItemFold, RangeHash};
-use mtc_command::{Answer, Stop, Stopped, read_input, refuse_file};
+use mtc_command::{Answer, LIST_LIMIT, Stop, Stopped, read_input, refuse_file};
 use mtc_lines::items_reason;
 use mtc_room::Room;
-use mtc_streams::{ENTRIES_LIMIT, fold_input};
+use mtc_streams::fold_input;
 use std::alloc::Global;
 use tree_core::TreeHash;
 use world_core::wanted_hash;
@@ -113,7 +113,7 @@ fn shown<'a, H: TreeHash, R: Room>(
         (claim_says H.hash entries.now claim.now))
         room.old room.new (ending_of result) }
 {
-    let bytes = read_input(alloc, room, entries, ENTRIES_LIMIT)?;
+    let bytes = read_input(alloc, room, entries, LIST_LIMIT)?;
     by_list::<H>(alloc, entries, bytes.as_slice(), claim)
 }
 
@@ -133,7 +133,7 @@ pub(crate) fn compared<'a, H: TreeHash, R: Room>(
         room.old room.new (ending_of result) }
 {
     let mut fold = asking::<H>(alloc, &judged);
-    let counted = fold_input::<H, R, _>(alloc, room, entries, ENTRIES_LIMIT, &mut fold)?;
+    let counted = fold_input::<H, R, _>(alloc, room, entries, LIST_LIMIT, &mut fold)?;
     match judged {
         Judged::BadStore(stop) => Err(stop),
         Judged::Ends(ending) => {

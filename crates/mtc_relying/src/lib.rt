@@ -13,7 +13,6 @@ mod accepted;
 pub mod audit;
 mod claim;
 mod comparing;
-mod exported;
 mod found;
 mod input;
 pub mod member;

@@ -12,8 +12,8 @@ ghost use Rattle.mtc_relying.specs.QuarrelOutcome.{quarrel_by, quarrel_kept, qua
 ghost use Rattle.mtc_relying.specs.QuarrelOutcome.{quarrel_says};
 ghost use Rattle.mtc_relying.specs.Views.{quarrel_reply};
 
-use crate::exported::kept_in;
 use cosigner_core::{Export, ReadExportError};
+use cosigner_steps::read_steps;
 use mtc_command::{Answer, LIST_LIMIT, Said, Stop, Stopped, read_input, refuse_file};
 use mtc_io::Memory;
 use mtc_lines::export_reason;
@@ -75,7 +75,7 @@ fn export_answer<'a, H: TreeHash>(
 ) -> Result<Answer, Stop<'a>>
     ensures { Replies (quarrel_says H.hash export.now bytes.now).answer (ending_of result) }
 {
-    match kept_in::<H>(alloc, bytes) {
+    match read_steps::<H>(alloc, bytes) {
         Ok(kept) => Ok(shown::<H>(alloc, kept.as_ref())?),
         Err(ReadExportError::Memory) => Err(Stop::Memory),
         Err(why) => Err(refuse_file(Stopped::BadForm, export, export_reason(why))),

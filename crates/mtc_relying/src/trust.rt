@@ -20,10 +20,10 @@ use crate::tables::SubtreeTables;
 use entry_list::ItemsError;
 use entry_stream::ItemFold;
 use landmarks::{ListError, read_list};
-use mtc_command::{Answer, INPUT_LIMIT, Said, Stop, Stopped, read_input, refuse_file};
+use mtc_command::{Answer, INPUT_LIMIT, LIST_LIMIT, Said, Stop, Stopped, read_input, refuse_file};
 use mtc_lines::items_reason;
 use mtc_room::Room;
-use mtc_streams::{ENTRIES_LIMIT, fold_input};
+use mtc_streams::fold_input;
 use std::alloc::Global;
 use tree_core::TreeHash;
 
@@ -93,6 +93,6 @@ pub fn trust_landmarks<'a, H: TreeHash, R: Room>(
     let most = max_active as u32;
     let spans = subtrees_in(alloc, text.as_slice(), most)?;
     let mut tables: SubtreeTables<H> = SubtreeTables::new(alloc, spans);
-    let counted = fold_input::<H, _, _>(alloc, room, entries, ENTRIES_LIMIT, &mut tables)?;
+    let counted = fold_input::<H, _, _>(alloc, room, entries, LIST_LIMIT, &mut tables)?;
     entries_answer(alloc, list, most, text.as_slice(), entries, counted, tables)
 }

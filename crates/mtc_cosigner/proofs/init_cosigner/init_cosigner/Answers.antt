@@ -16,7 +16,7 @@ returns-in_err-secret-clause-serves g c =
     let stopped = err_from_is_err_and c.from_residual.result c.from_residual.ensures.1 in
     rw (stopped.1, stopped.2) (c.in_err-secret.ensures.stops (journal ∷ (file ∷ []))
     (journal ∷ []) (init_says journal
-    (cosigner_settings_of c.args.id c.args.log c.args.height c.args.width) file
+    (cosigner_settings_of c.args.id c.args.log c.args.top c.args.low c.args.width) file
     (g.R.Room.file c.args.room.now journal)) (inr (inl refl)))
 
 pub returns-clause-serves : goal.returns-clause-serves
@@ -30,25 +30,28 @@ returns-clause-serves g c =
     let id = c.args.id in
     let log = c.args.log in
     following rooms g.R.Dsk.Disk (journal ∷ (file ∷ [])) (journal ∷ (file ∷ [])) (journal ∷ []) []
-    (init_cosigner_outcome journal id log c.args.height c.args.width file (rooms.file old))
+    (init_cosigner_outcome journal id log c.args.top c.args.low c.args.width file (rooms.file old))
     (init_says journal (record {
       id = id;
       log = log;
       lms = c.tree_of_height.result;
+      low = c.lower_of_height.result;
       ots = c.chains_of_width.result;
     }) file (rooms.file mid journal) c.as_slice.result.now) old mid
     c.init_with.new.room (ending_of c.init_with.result) read.all_closed
-    (λ t. asked_so journal id log file c.args.height c.args.width (rooms.file old)
+    (λ t. asked_so journal id log file c.args.top c.args.low c.args.width (rooms.file old)
     c.in_ok-secret.secret c.as_slice.result.now (rooms.file mid journal) c.tree_of_height.result
-    c.chains_of_width.result c.tree_of_height.ensures.is c.chains_of_width.ensures
-    c.as_slice.ensures (read.all_closed.others journal tt).bytes (read.bytes t).0 (read.bytes t).1)
+    c.lower_of_height.result c.chains_of_width.result c.tree_of_height.ensures.is
+    c.lower_of_height.ensures.is c.chains_of_width.ensures c.as_slice.ensures
+    (read.all_closed.others journal tt).bytes (read.bytes t).0 (read.bytes t).1)
     (λ name is. is) c.init_with.ensures.serves
 
 pub returns-in_err-secret-clause-valid : goal.returns-in_err-secret-clause-valid
 returns-in_err-secret-clause-valid g c = λ h.
     kept_valid g.R.Room g.R.Dsk.Disk (IsCosigner h) (c.args.journal.now ∷ [])
-    (init_cosigner_outcome c.args.journal.now c.args.id c.args.log c.args.height c.args.width
-    c.args.file.now (g.R.Room.file c.args.room.now)) c.args.room.now c.read_input.new.room
+    (init_cosigner_outcome c.args.journal.now c.args.id c.args.log c.args.top c.args.low
+    c.args.width c.args.file.now (g.R.Room.file c.args.room.now)) c.args.room.now
+    c.read_input.new.room
     c.in_err-secret.ensures.all_closed g.met.R.Dsk.Disk.only_now
 
 pub returns-clause-valid : goal.returns-clause-valid
@@ -62,18 +65,20 @@ returns-clause-valid g c = λ h.
     let id = c.args.id in
     let log = c.args.log in
     after_valid rooms g.R.Dsk.Disk (IsCosigner h) (journal ∷ [])
-    (init_cosigner_outcome journal id log c.args.height c.args.width file (rooms.file old))
+    (init_cosigner_outcome journal id log c.args.top c.args.low c.args.width file (rooms.file old))
     (init_says journal (record {
       id = id;
       log = log;
       lms = c.tree_of_height.result;
+      low = c.lower_of_height.result;
       ots = c.chains_of_width.result;
     }) file (rooms.file mid journal) c.as_slice.result.now) old mid
     c.init_with.new.room read.all_closed
-    (λ t. asked_so journal id log file c.args.height c.args.width (rooms.file old)
+    (λ t. asked_so journal id log file c.args.top c.args.low c.args.width (rooms.file old)
     c.in_ok-secret.secret c.as_slice.result.now (rooms.file mid journal) c.tree_of_height.result
-    c.chains_of_width.result c.tree_of_height.ensures.is c.chains_of_width.ensures
-    c.as_slice.ensures (read.all_closed.others journal tt).bytes (read.bytes t).0 (read.bytes t).1)
+    c.lower_of_height.result c.chains_of_width.result c.tree_of_height.ensures.is
+    c.lower_of_height.ensures.is c.chains_of_width.ensures c.as_slice.ensures
+    (read.all_closed.others journal tt).bytes (read.bytes t).0 (read.bytes t).1)
     (c.init_with.ensures.valid h)
 
 pub returns-in_err-secret-clause-begins : goal.returns-in_err-secret-clause-begins

@@ -1,4 +1,4 @@
-use Rattle.std.proofs.Common.{rules, [], ◌∷◌, ◌≡◌, IsOk, inl, refl, length, subst, sym}
+use Rattle.std.proofs.Common.{rules, [], ◌∷◌, IsOk, inl, refl, subst, sym}
 use Rattle.std.proofs.lemmas.Result.{err_from_is_err_and}
 use Rattle.byte_formats.specs.Types.{Text}
 use Rattle.journal_core.specs.Packed.{first_body}

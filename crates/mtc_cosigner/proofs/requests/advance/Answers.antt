@@ -12,7 +12,6 @@ use Rattle.mtc_cosigner.specs.CosignerOutcomes.{advance_says}
 use Rattle.cosigner_core.specs.Reasons.{form_fault_text}
 use Rattle.mtc_cosigner.specs.Works.{IsCosigner, advance_outcome, cosigner_outcome}
 use Rattle.mtc_cosigner.specs.Works.{cosigner_says}
-use Rattle.mtc_cosigner.specs.declared.work.Work.TheVariants.{Advance}
 use Rattle.mtc_cosigner.proofs.Asked.{asked_so, no_request}
 use Rattle.mtc_cosigner.proofs.requests.advance.Goals as goal
 

@@ -12,7 +12,6 @@ use Rattle.mtc_cosigner.specs.CosignerOutcomes.{cosign_says}
 use Rattle.cosigner_core.specs.Reasons.{form_fault_text}
 use Rattle.mtc_cosigner.specs.Works.{IsCosigner, cosign_outcome, cosigner_outcome}
 use Rattle.mtc_cosigner.specs.Works.{cosigner_says}
-use Rattle.mtc_cosigner.specs.declared.work.Work.TheVariants.{Cosign}
 use Rattle.mtc_cosigner.proofs.Asked.{asked_so, no_request}
 use Rattle.mtc_cosigner.proofs.requests.cosign.Goals as goal
 

@@ -15,6 +15,16 @@ unfolding Rattle.mtc_cosigner.specs.Works.cosigner_says
 returns-in-Advance-clause-valid g c =
     rw (c.in-Advance.is, c.into_disk.ensures) c.advance_on-answer.ensures.valid
 
+pub returns-in-Child-clause-works : goal.returns-in-Child-clause-works
+unfolding Rattle.mtc_cosigner.specs.Works.cosigner_says
+returns-in-Child-clause-works g c =
+    rw (c.in-Child.is, c.into_disk-in-Child.ensures) c.child_on-answer.ensures.works
+
+pub returns-in-Child-clause-valid : goal.returns-in-Child-clause-valid
+unfolding Rattle.mtc_cosigner.specs.Works.cosigner_says
+returns-in-Child-clause-valid g c =
+    rw (c.in-Child.is, c.into_disk-in-Child.ensures) c.child_on-answer.ensures.valid
+
 pub returns-in-Ok-clause-works : goal.returns-in-Ok-clause-works
 unfolding Rattle.mtc_cosigner.specs.Works.cosigner_says
 returns-in-Ok-clause-works g c =
