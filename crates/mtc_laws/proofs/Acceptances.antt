@@ -14,7 +14,6 @@ use Rattle.journal_core.specs.Format.{Represents}
 use Rattle.journal_core.proofs.Folds.{state_more}
 use Rattle.tree_core.specs.declared.spans.Span.{Span}
 use Rattle.mtc_io.specs.declared.sink.Sink.{Ghosts as Sinks}
-use Rattle.mtc_room.specs.Room.{ModelsFile}
 use Rattle.mtc_room.specs.declared.room.Room.{Ghosts as Rooms}
 use Rattle.file_events.specs.Events.{MayRecover}
 use Rattle.file_events.specs.Executions.{IsPrefix}
@@ -80,6 +79,7 @@ use Rattle.mtc_laws.proofs.Unrefused.{cert_unrefused, light_unrefused}
 use Rattle.mtc_laws.proofs.ValidStores.{store_valid}
 use Rattle.mtc_laws.proofs.Verified.{accepted_printed}
 use Rattle.mtc_laws.proofs.Writing.{issued_accepted, issued_read}
+use Rattle.mtc_laws.proofs.Aliases.{ModelsFiles}
 
 -- ---- an item that was added
 
@@ -124,8 +124,7 @@ added_at h form list found body s t i r was is prefix bytes item =
 
 module _ {R S D O E : Type 0} (h : HashFunction) (rooms : Rooms R S D) (disks : Disks D)
     (outs : Sinks O) (errs : Sinks E) (crash_state : ReadsCrashState disks) (only : OnlyNow disks)
-    (contents : (room : R) (name : List ℕ) → rooms.is_modelled room
-    → ModelsFile disks.contents (rooms.file room name) (rooms.device room name))
+    (contents : ModelsFiles rooms disks)
     (bytes : (d : D) (b : List ℕ) → disks.contents d ≡ Some b → IsBytes b)
     (sized : (b : Text) → length (h b) ≡ 32) (firsts : FirstsKeepToRules) where
   abbrev p : Program
@@ -162,7 +161,7 @@ module _ {R S D O E : Type 0} (h : HashFunction) (rooms : Rooms R S D) (disks : 
       (
         contents_crash_state disks (rooms.device old name) held crash_state
             (modelled_file disks (rooms.file old name) (rooms.device old name)
-            (contents old name is_modelled) ∙ there),
+            (contents.0 old name is_modelled) ∙ there),
         stands,
       ),
     )

@@ -1,6 +1,6 @@
 -- Each certificate of a list is accepted.
-use Rattle.std.proofs.Common.{◌≡◌, inl, inr, ℕ, ◌+◌, ◌-◌, ◌<◌, ◌≤◌, List, [], ◌∷◌, length}
-use Rattle.std.proofs.Common.{slice_index_or, Option, Some, Ok, refl, sym, subst, ap, ◌∙◌, arith}
+use Rattle.std.proofs.Common.{◌≡◌, inl, inr, ℕ, ◌+◌, ◌-◌, ◌<◌, ◌≤◌, List, [], length}
+use Rattle.std.proofs.Common.{Option, Some, Ok, refl, sym, subst, ap, ◌∙◌, arith}
 use Rattle.std.specs.List.{range_with_len}
 use Rattle.std.specs.Prelude.{flat_map, map}
 use Rattle.std.proofs.lemmas.List.Folds.{flat_map-map}
@@ -10,12 +10,10 @@ use Rattle.byte_formats.specs.Types.{HashFunction, Text}
 use Rattle.disk_core.specs.declared.disk.Disk.{Ghosts as Disks}
 use Rattle.tree_core.specs.declared.spans.Span.{Span}
 use Rattle.mtc_io.specs.declared.sink.Sink.{Ghosts as Sinks}
-use Rattle.mtc_room.specs.Room.{ModelsFile}
 use Rattle.mtc_room.specs.declared.room.Room.{Ghosts as Rooms}
 use Rattle.file_events.specs.Worlds.{Program}
-use Rattle.mtc_proof.specs.Proofs.{AreSignatures}
-use Rattle.issuance_log.specs.Folds.{LogState, view_in}
-use Rattle.authority_core.specs.Certificates.{cert_refusal, covering_in, light_refusal}
+use Rattle.issuance_log.specs.Folds.{view_in}
+use Rattle.authority_core.specs.Certificates.{covering_in}
 use Rattle.authority_core.specs.Several.{HoldsEach, pem_of}
 use Rattle.party_history.specs.declared.start.PartyStart.{PartyStart}
 use Rattle.mtc_words.specs.Commands.{certs, light_certs}
@@ -40,6 +38,7 @@ use Rattle.mtc_laws.proofs.HeardBytes.{done_heard}
 use Rattle.mtc_laws.proofs.PemTexts.{certs_unrefused, light_certs_unrefused}
 use Rattle.mtc_laws.proofs.Recovered.{modelled_then}
 use Rattle.mtc_laws.proofs.SoundLogs.{FirstsKeepToRules}
+use Rattle.mtc_laws.proofs.Aliases.{ModelsFiles}
 
 -- what holds of the certificate of each index holds of each in their PEM
 holds_each : (P : ℕ → Text → Type 0) (certificate : ℕ → Text) (first last : ℕ) (text : Text)
@@ -64,8 +63,7 @@ holds_each P certificate first last text some is each =
 
 module _ {R S D O E : Type 0} (h : HashFunction) (rooms : Rooms R S D) (disks : Disks D)
     (outs : Sinks O) (errs : Sinks E) (crash_state : ReadsCrashState disks) (only : OnlyNow disks)
-    (contents : (room : R) (name : List ℕ) → rooms.is_modelled room
-    → ModelsFile disks.contents (rooms.file room name) (rooms.device room name))
+    (contents : ModelsFiles rooms disks)
     (bytes : (d : D) (b : List ℕ) → disks.contents d ≡ Some b → IsBytes b)
     (sized : (b : Text) → length (h b) ≡ 32) (firsts : FirstsKeepToRules) where
   abbrev p : Program

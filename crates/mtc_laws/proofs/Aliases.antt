@@ -1,5 +1,5 @@
 -- Words for the program's executions, over its files and outputs one by one.
-use Rattle.std.proofs.Common.{◌≡◌, ◌⊎◌, true, List, [], ◌∷◌}
+use Rattle.std.proofs.Common.{◌≡◌, true, List}
 use Rattle.byte_formats.specs.Types.{HashFunction, Text}
 use Rattle.mtc_top.specs.Executions.{program, owner, Run, FileEvent}
 use Rattle.disk_core.specs.declared.disk.Disk.{Ghosts as Disks}
@@ -8,6 +8,8 @@ use Rattle.file_events.specs.Worlds.{is_heard, Program, EachRun, IsFileExecution
 use Rattle.file_events.specs.Worlds.{states_of, states_between, FileOwner}
 use Rattle.file_events.specs.Owners.{did_to}
 use Rattle.mtc_io.specs.declared.sink.Sink.{Ghosts as Sinks}
+use Rattle.mtc_room.specs.Places.{place_of}
+use Rattle.mtc_room.specs.Room.{ModelsFile}
 use Rattle.mtc_room.specs.declared.room.Room.{Ghosts as Rooms}
 use Rattle.mtc_command.specs.Made.{Journaled}
 
@@ -45,6 +47,14 @@ module _ {R S D O E : Type 0} (h : HashFunction) (rooms : Rooms R S D) (disks : 
 
   abbrev pub IsRecovered : Text → R → List Text → Type 0
   IsRecovered name room = MayRecover (crash_states_in room name)
+
+-- What the model knows of the files: those of their devices, and that names of one place have one.
+abbrev pub ModelsFiles : {R S D : Type 0} → Rooms R S D → Disks D → Type 0
+ModelsFiles {R} {S} {D} rooms disks = ((room : R) (name : Text) → rooms.is_modelled room
+    → ModelsFile disks.contents (rooms.file room name) (rooms.device room name))
+    × ((room : R) (one other : Text) → rooms.is_modelled room
+    → place_of rooms.leads_to one ≡ place_of rooms.leads_to other
+    → rooms.device room one ≡ rooms.device room other)
 
 -- as `heard_of`, over an output
 abbrev pub IsHeard : {R O E : Type 0} → Sinks O → Run R O E → Type 0

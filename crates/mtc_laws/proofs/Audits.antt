@@ -19,7 +19,6 @@ use Rattle.byte_formats.proofs.Steps.{ok_is}
 use Rattle.byte_formats.proofs.Values.{same_bytes}
 use Rattle.disk_core.specs.declared.disk.Disk.{Ghosts as Disks}
 use Rattle.mtc_io.specs.declared.sink.Sink.{Ghosts as Sinks}
-use Rattle.mtc_room.specs.Room.{ModelsFile}
 use Rattle.mtc_room.specs.declared.room.Room.{Ghosts as Rooms}
 use Rattle.mtc_words.specs.Commands.{CommandValue, audit}
 use Rattle.mtc_words.specs.Words.{known_word}
@@ -54,6 +53,7 @@ use Rattle.mtc_top.specs.Concluded.{Prints}
 use Rattle.mtc_top.specs.Facts.{facts}
 use Rattle.mtc_laws.proofs.Exports.{exports_hold}
 use Rattle.mtc_laws.proofs.HeardBytes.{done_heard}
+use Rattle.mtc_laws.proofs.Aliases.{ModelsFiles}
 use Rattle.mtc_top.proofs.Runs.{answered, wrote_of}
 use Rattle.mtc_top.specs.Executions.{program, Run}
 
@@ -74,14 +74,14 @@ audit_asked h files cert store unix_time entries kept x is =
     let e : InputFile = record { name = entries; text = is.entries_text } in
     let k : InputFile = record { name = kept; text = is.kept_text } in
     input_there 16777216 cert files (λ a. with_input 16777216 store files
-    (λ b. with_input 8589934592 entries files (λ d. with_input 1073741824 kept files
+    (λ b. with_input 8589934592 entries files (λ d. with_input 8589934592 kept files
     (λ f. audit_store_says h a b unix_time d f)))) is.cert_text is.has_cert
     ∙ input_there 16777216 store files (λ b. with_input 8589934592 entries files
-    (λ d. with_input 1073741824 kept files (λ f. audit_store_says h c b unix_time d f)))
+    (λ d. with_input 8589934592 kept files (λ f. audit_store_says h c b unix_time d f)))
     is.store_text is.has_store
-    ∙ input_there 8589934592 entries files (λ d. with_input 1073741824 kept files
+    ∙ input_there 8589934592 entries files (λ d. with_input 8589934592 kept files
     (λ f. audit_store_says h c s unix_time d f)) is.entries_text is.has_entries
-    ∙ input_there 1073741824 kept files (λ f. audit_store_says h c s unix_time e f) is.kept_text
+    ∙ input_there 8589934592 kept files (λ f. audit_store_says h c s unix_time e f) is.kept_text
     is.has_kept
     ∙ ap (λ r. with_form store_fault_text store r (audit_items_say h c unix_time e k)) is.store_read
     ∙ ap (λ r. with_form items_fault_text entries r (audit_export_says h c unix_time k x.store))
@@ -168,8 +168,7 @@ printed_text (Some xs) (Some ys) before kept text was is prints =
 
 module _ {R S D O E : Type 0} (h : HashFunction) (rooms : Rooms R S D) (disks : Disks D)
     (outs : Sinks O) (errs : Sinks E) (crash_state : ReadsCrashState disks) (only : OnlyNow disks)
-    (contents : (room : R) (name : List ℕ) → rooms.is_modelled room
-    → ModelsFile disks.contents (rooms.file room name) (rooms.device room name))
+    (contents : ModelsFiles rooms disks)
     (bytes : (d : D) (b : List ℕ) → disks.contents d ≡ Some b → IsBytes b) where
   -- the export that is audited was read
   pub kept_there : (x : AuditCase) (kept_text : List ℕ) → export_in h kept_text ≡ Ok x.kept

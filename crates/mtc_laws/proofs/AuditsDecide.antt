@@ -4,7 +4,6 @@ use Rattle.byte_formats.specs.Offsets.{IsBytes}
 use Rattle.byte_formats.specs.Types.{HashFunction}
 use Rattle.disk_core.specs.declared.disk.Disk.{Ghosts as Disks}
 use Rattle.mtc_io.specs.declared.sink.Sink.{Ghosts as Sinks}
-use Rattle.mtc_room.specs.Room.{ModelsFile}
 use Rattle.mtc_room.specs.declared.room.Room.{Ghosts as Rooms}
 use Rattle.entry_list.specs.Items.{AreItems}
 use Rattle.entry_list.proofs.Written.{items_only}
@@ -20,12 +19,12 @@ use Rattle.mtc_laws.specs.AuditLaws.{StandsOrPair}
 use Rattle.mtc_top.specs.Concluded.{Prints}
 use Rattle.mtc_laws.proofs.Audits.{audits_stand, kept_there}
 use Rattle.mtc_laws.proofs.HeardRuns.{file_bytes}
+use Rattle.mtc_laws.proofs.Aliases.{ModelsFiles}
 use Rattle.mtc_top.specs.Executions.{program, Run}
 
 module _ {R S D O E : Type 0} (h : HashFunction) (rooms : Rooms R S D) (disks : Disks D)
     (outs : Sinks O) (errs : Sinks E) (crash_state : ReadsCrashState disks) (only : OnlyNow disks)
-    (contents : (room : R) (name : List ℕ) → rooms.is_modelled room
-    → ModelsFile disks.contents (rooms.file room name) (rooms.device room name))
+    (contents : ModelsFiles rooms disks)
     (bytes : (d : D) (b : List ℕ) → disks.contents d ≡ Some b → IsBytes b) where
   abbrev IsSigned : AuditCase → List ℕ → Type 0
   IsSigned = IsSignedInExecution h (program h rooms disks outs errs)
@@ -82,7 +81,7 @@ module _ {R S D O E : Type 0} (h : HashFunction) (rooms : Rooms R S D) (disks : 
       not6
       not8 =
       let are = items_only h is.entries_text x.items (file_bytes disks (rooms.file old entries)
-      (rooms.device old entries) is.entries_text bytes (contents old entries is_modelled)
+      (rooms.device old entries) is.entries_text bytes (contents.0 old entries is_modelled)
       is.has_entries.there) is.items_read in
       plainly x run are.1.0
       (audits_stand h rooms disks outs errs crash_state only contents bytes old run

@@ -1,9 +1,13 @@
 -- A journal is never a file beside another one.
-use Rattle.std.proofs.Common.{◌≡◌, inl, inr, ℕ, false, List, ◌++◌, Option, None, Some}
-use Rattle.std.proofs.Common.{Result, Ok, Err, refl, subst}
+use Rattle.std.proofs.Common.{◌≡◌, inl, inr, ℕ, Bool, true, false, List, ◌++◌, Option, None, Some}
+use Rattle.std.proofs.Common.{Result, Ok, Err, refl, subst, ap, ◌∙◌, take, length, codes}
+use Rattle.std.proofs.Common.{◌-◌, nat_eq}
+use Rattle.std.proofs.lemmas.Bool.Decides.{Decides-eqb}
+use Rattle.std.proofs.lemmas.Slice.Eq.{ends_is}
 use Rattle.std.specs.Option.{option_to_list}
 use Rattle.std.specs.Prelude.{IfSome}
-use Rattle.byte_formats.specs.Types.{HashFunction}
+use Rattle.byte_formats.specs.Types.{HashFunction, Text}
+use Rattle.mtc_room.specs.Places.{place_of}
 use Rattle.mtc_words.specs.Commands.{CommandValue, journal_of}
 use Rattle.mtc_words.specs.Names.{is_tiles_name}
 use Rattle.mtc_words.specs.Words.{command_of}
@@ -11,9 +15,8 @@ use Rattle.mtc_words.specs.declared.error.WordError.{WordError}
 use Rattle.mtc_words.proofs.Journals.{journals_have_own_names}
 use Rattle.mtc_command.specs.Made.{Journaled}
 use Rattle.mtc_command.specs.Served.{IsOther, done_with}
-use Rattle.mtc_command.proofs.Served.{other_both}
 use Rattle.mtc_plans.specs.Commands.{plan_of}
-use Rattle.mtc_plans.proofs.Names.{journals_named, no_journal_beside}
+use Rattle.mtc_plans.proofs.Names.{journals_named, no_journal_beside, no_tiles_place}
 use Rattle.mtc_top.specs.Facts.{facts}
 use Rattle.mtc_laws.specs.RunLaws.{AreAmong}
 
@@ -45,15 +48,30 @@ journal_own h words dids name did among = go (command_of words) refl among
         (journals_have_own_names words command is)
     go (Err why) is among = absurd among
 
--- it is none of the files beside those of a command
-pub none_beside : (h : HashFunction) (r : Result CommandValue WordError) (name : List ℕ)
-    → IsOwn name → IsOther (facts h r).besides name
-none_beside h (Ok command) name own = no_journal_beside h (plan_of h command).journals name own
-none_beside h (Err why) name own = tt
+-- the name of a file of tiles has their end
+tiles_end : (name : Text) → is_tiles_name name ≡ true
+    → (begins : Text) × (name ≡ begins ++ codes ".tiles")
+unfolding is_tiles_name
+tiles_end name is = (
+  take (length name - length (codes ".tiles")) name,
+  (ends_is {E = nat_eq} Decides-eqb name (codes ".tiles") _ refl).0 is,
+)
 
--- a name that is none of its journals'
-pub other_beside : (h : HashFunction) (r : Result CommandValue WordError) (name : List ℕ)
-    → IsOwn name → IsOther (facts h r).journals name
-    → IsOther ((facts h r).besides ++ (facts h r).journals) name
-other_beside h r name own other =
-    other_both (facts h r).besides (facts h r).journals name (none_beside h r name own) other
+-- and no other name has the place of such a file
+pub own_place : (leads_to : Text → Text) (journal name : Text)
+    → place_of leads_to journal ≡ place_of leads_to name → IsOwn journal → IsOwn name
+own_place leads_to journal name same own = go (is_tiles_name name) refl
+  where
+    go : (b : Bool) → is_tiles_name name ≡ b → is_tiles_name name ≡ false
+    go false is = is
+    go true is =
+        let ends = tiles_end name is in
+        absurd (no_tiles_place leads_to ends.0 journal own
+        (same ∙ ap (place_of leads_to) ends.1))
+
+-- it is at the place of none of the files beside those of a command
+pub none_beside : (leads_to : Text → Text) (h : HashFunction) (r : Result CommandValue WordError)
+    (name : List ℕ) → IsOwn name → IsOther leads_to (facts h r).besides name
+none_beside leads_to h (Ok command) name own =
+    no_journal_beside leads_to h (plan_of h command).journals name own
+none_beside leads_to h (Err why) name own = tt

@@ -1,36 +1,32 @@
 -- What goes out of `certs` and of `light-certs`.
-use Rattle.std.proofs.Common.{◌≡◌, ℕ, List, [], None, Some, Ok, refl}
+use Rattle.std.proofs.Common.{◌≡◌, ℕ, List, None, Some, Ok, refl}
 use Rattle.byte_formats.specs.Offsets.{IsBytes}
 use Rattle.byte_formats.specs.Types.{HashFunction, Text}
 use Rattle.disk_core.specs.declared.disk.Disk.{Ghosts as Disks}
 use Rattle.journal_core.specs.Format.{Represents}
 use Rattle.journal_core.proofs.Standing.{found_stands}
 use Rattle.mtc_io.specs.declared.sink.Sink.{Ghosts as Sinks}
-use Rattle.mtc_room.specs.Room.{ModelsFile}
 use Rattle.mtc_room.specs.declared.room.Room.{Ghosts as Rooms}
 use Rattle.issuance_log.specs.Folds.{LogState, log_fold, view_in}
 use Rattle.authority_core.specs.Several.{certs_refusal, light_certs_refusal}
-use Rattle.mtc_words.specs.Commands.{CommandValue, certs, light_certs}
+use Rattle.mtc_words.specs.Commands.{certs, light_certs}
 use Rattle.mtc_words.specs.Words.{command_of}
 use Rattle.mtc_command.specs.Made.{reads}
 use Rattle.mtc_authority.specs.CertOutcome.{signatures_in}
 use Rattle.mtc_authority.specs.ListOutcomes.{certs_text, light_certs_text}
-use Rattle.mtc_plans.specs.Commands.{planned_outcome}
-use Rattle.mtc_plans.specs.Words.{streams}
 use Rattle.mtc_laws.specs.AuditLaws.{HoldsText}
 use Rattle.mtc_laws.specs.PemLaws.{CertificateListsArePrinted, LightListsArePrinted, PrintsOfLog}
 use Rattle.mtc_laws.proofs.Aliases.{IsHeard, IsRun}
-use Rattle.mtc_laws.proofs.CertTexts.{WritesSo}
-use Rattle.mtc_laws.proofs.HeardRuns.{file_bytes, heard_run, printed_so}
+use Rattle.mtc_laws.proofs.HeardRuns.{file_bytes, printed_so}
 use Rattle.mtc_laws.proofs.PemTexts.{CertsSaySo, LightCertsSaySo, certs_say, light_certs_say}
 use Rattle.mtc_laws.proofs.Printed.{did_so, heard_so}
 use Rattle.mtc_laws.proofs.Streams.{plain_command}
+use Rattle.mtc_laws.proofs.Aliases.{ModelsFiles}
 use Rattle.mtc_top.specs.Executions.{Run, program}
 
 module _ {R S D O E : Type 0} (h : HashFunction) (rooms : Rooms R S D) (disks : Disks D)
     (outs : Sinks O) (errs : Sinks E)
-    (contents : (room : R) (name : List ℕ) → rooms.is_modelled room
-    → ModelsFile disks.contents (rooms.file room name) (rooms.device room name))
+    (contents : ModelsFiles rooms disks)
     (bytes : (d : D) (b : List ℕ) → disks.contents d ≡ Some b → IsBytes b) where
   -- what a run of either printed, and the bytes in which it found the log
   pub record PrintsFound (name : List ℕ) (wanted : LogState → Text) (old : R) (run : Run R O E)
@@ -69,13 +65,13 @@ module _ {R S D O E : Type 0} (h : HashFunction) (rooms : Rooms R S D) (disks : 
       (certs_say h (rooms.file old) name first last start end file) in
       let w = s.writes in
       let are = file_bytes disks (rooms.file old name) (rooms.device old name) w.held bytes
-      (contents old name is_modelled) w.there in
+      (contents.0 old name is_modelled) w.there in
       let stands = found_stands (log_fold h) w.held w.found are w.is_log in
       record {
         text = s.bytes;
         has_text = record { there = s.has_bytes.there; few = s.has_bytes.few };
         text_is = file_bytes disks (rooms.file old file) (rooms.device old file) s.bytes bytes
-            (contents old file is_modelled) s.has_bytes.there;
+            (contents.0 old file is_modelled) s.has_bytes.there;
         signatures = s.signatures;
         asked = s.asked;
         found = record {
@@ -108,7 +104,7 @@ module _ {R S D O E : Type 0} (h : HashFunction) (rooms : Rooms R S D) (disks : 
       (light_certs_say h (rooms.file old) name first last) in
       let w = s.writes in
       let are = file_bytes disks (rooms.file old name) (rooms.device old name) w.held bytes
-      (contents old name is_modelled) w.there in
+      (contents.0 old name is_modelled) w.there in
       let stands = found_stands (log_fold h) w.held w.found are w.is_log in
       record {
         found = record {

@@ -25,9 +25,9 @@ use Rattle.command_plans.proofs.Facts.{heard_passed, not_refused}
 use Rattle.mtc_plans.specs.Commands.{planned_outcome}
 use Rattle.mtc_plans.specs.Heard.{HoldsSmall, OfSaid}
 use Rattle.mtc_plans.specs.LogPlans.{cert_plan, work_plan, work_step}
-use Rattle.mtc_plans.specs.LogWork.{cert_judged, work_reported, write_judged}
+use Rattle.mtc_plans.specs.LogWork.{work_reported, write_judged}
 use Rattle.mtc_plans.specs.PartyKinds.{party_kinds}
-use Rattle.mtc_plans.specs.Steps.{deed_on}
+use Rattle.mtc_plans.specs.Steps.{deed_on, prints_unless}
 use Rattle.mtc_plans.proofs.Heard.{form_passed, same_work}
 
 -- ---- a certificate is no refusal
@@ -46,7 +46,7 @@ never_written write_error.TilesFailed status text is = not_refused status text _
 never_written write_error.Memory status text is = not_refused status text _ _ _ is
 
 written_so : (why : Option WriteError) (certificate : List ℕ) (status : Said) (text : List ℕ)
-    → Meets (wanted_of (cert_judged why certificate)) (said status text)
+    → Meets (wanted_of (prints_unless write_judged why certificate)) (said status text)
     → (why ≡ None) × (said status text ≡ said Done certificate)
 written_so None certificate status text is = (refl, is)
 written_so (Some why) certificate status text is = absurd (never_written why status text is)

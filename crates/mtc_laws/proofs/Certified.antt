@@ -8,7 +8,6 @@ use Rattle.disk_core.specs.declared.disk.Disk.{Ghosts as Disks}
 use Rattle.tree_core.specs.declared.spans.Span.{Span}
 use Rattle.journal_core.proofs.Standing.{found_stands}
 use Rattle.mtc_io.specs.declared.sink.Sink.{Ghosts as Sinks}
-use Rattle.mtc_room.specs.Room.{ModelsFile}
 use Rattle.mtc_room.specs.declared.room.Room.{Ghosts as Rooms}
 use Rattle.issuance_log.specs.Folds.{LogView, log_fold, view_in}
 use Rattle.authority_core.specs.Certificates.{cert_refusal, covering_in, light_refusal}
@@ -30,6 +29,7 @@ use Rattle.mtc_laws.proofs.Printed.{did_so, heard_so}
 use Rattle.mtc_laws.specs.CertLaws.{CertificatesArePrinted, LightCertificatesArePrinted}
 use Rattle.mtc_laws.specs.CertLaws.{PrintsCertificate}
 use Rattle.mtc_laws.proofs.CertTexts.{CertSaysSo, LightCertSaysSo, cert_says, light_cert_says}
+use Rattle.mtc_laws.proofs.Aliases.{ModelsFiles}
 
 -- a certificate without signatures that nothing refuses has a subtree
 covered_if : (past first : Bool) (o : Option Span)
@@ -47,8 +47,7 @@ covered v index is = covered_if (nat_le v.size index) (index == 0) (covering_in 
 
 module _ {R S D O E : Type 0} (h : HashFunction) (rooms : Rooms R S D) (disks : Disks D)
     (outs : Sinks O) (errs : Sinks E)
-    (contents : (room : R) (name : List ℕ) → rooms.is_modelled room
-    → ModelsFile disks.contents (rooms.file room name) (rooms.device room name))
+    (contents : ModelsFiles rooms disks)
     (bytes : (d : D) (b : List ℕ) → disks.contents d ≡ Some b → IsBytes b) where
   -- what a run of either printed, and the bytes in which it found the log
   pub record Certifies (name : List ℕ) (index : ℕ) (span : Span) (signatures : List ℕ) (old : R)
@@ -92,13 +91,13 @@ module _ {R S D O E : Type 0} (h : HashFunction) (rooms : Rooms R S D) (disks : 
       let list = w.found.records in
       let state = w.found.state in
       let are = file_bytes disks (rooms.file old name) (rooms.device old name) w.held bytes
-      (contents old name is_modelled) w.there in
+      (contents.0 old name is_modelled) w.there in
       let stands = found_stands (log_fold h) w.held w.found are w.is_log in
       record {
         text = s.bytes;
         has_text = record { there = s.has_bytes.there; few = s.has_bytes.few };
         text_is = file_bytes disks (rooms.file old file) (rooms.device old file) s.bytes bytes
-            (contents old file is_modelled) s.has_bytes.there;
+            (contents.0 old file is_modelled) s.has_bytes.there;
         signatures = s.signatures;
         asked = s.asked;
         certifies = record {
@@ -133,7 +132,7 @@ module _ {R S D O E : Type 0} (h : HashFunction) (rooms : Rooms R S D) (disks : 
       let list = w.found.records in
       let state = w.found.state in
       let are = file_bytes disks (rooms.file old name) (rooms.device old name) w.held bytes
-      (contents old name is_modelled) w.there in
+      (contents.0 old name is_modelled) w.there in
       let stands = found_stands (log_fold h) w.held w.found are w.is_log in
       let c = covered (view_in state) index s.allowed in
       let text = certificate_in h index c.0.start c.0.end [] state in

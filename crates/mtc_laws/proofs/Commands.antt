@@ -6,13 +6,14 @@ use Rattle.mtc_words.specs.Commands.{CommandValue}
 use Rattle.command_plans.specs.Plans.{Journal, makes, opens}
 use Rattle.command_plans.specs.Rules.{AreOfFirst, AreOfKind}
 use Rattle.mtc_plans.specs.Commands.{plan_of}
-use Rattle.mtc_plans.specs.PartyKinds.{PartyKind, cosigner, log, party_kinds}
+use Rattle.mtc_plans.specs.PartyKinds.{PartyKind, cosigner, log, rebuilt_log, party_kinds}
 use Rattle.party_history.specs.Rules.{AreRecords}
 use Rattle.mtc_top.specs.Facts.{facts}
 
 kind_records : (h : HashFunction) (kind : PartyKind) (list : List (List ℕ))
     → AreOfKind (party_kinds h) kind list → AreRecords h list
 kind_records h log list is = inl is
+kind_records h rebuilt_log list is = inl is
 kind_records h cosigner list is = inr is
 
 first_records : (h : HashFunction) (journals : List (Journal (party_kinds h)))

@@ -1,18 +1,16 @@
 -- A run of `quarrel` over the export of a cosigner that signed one interval with two hashes.
-use Rattle.std.proofs.Common.{◌≡◌, inl, ℕ, List, Option, Some, Result, Ok, refl, sym, subst, ap}
+use Rattle.std.proofs.Common.{◌≡◌, inl, ℕ, List, Some, Result, Ok, refl, sym, subst, ap}
 use Rattle.std.proofs.Common.{◌∙◌}
 use Rattle.std.specs.Prelude.{◌≢◌}
 use Rattle.byte_formats.specs.Offsets.{IsBytes}
 use Rattle.byte_formats.specs.Types.{HashFunction}
 use Rattle.disk_core.specs.declared.disk.Disk.{Ghosts as Disks}
 use Rattle.mtc_io.specs.declared.sink.Sink.{Ghosts as Sinks}
-use Rattle.mtc_room.specs.Room.{ModelsFile}
 use Rattle.mtc_room.specs.declared.room.Room.{Ghosts as Rooms}
 use Rattle.mtc_words.specs.Commands.{CommandValue, quarrel}
 use Rattle.mtc_words.specs.Words.{command_of, known_word}
 use Rattle.mtc_words.specs.declared.error.WordError.{WordError}
 use Rattle.cosigner_core.specs.ExportReading.{export_in}
-use Rattle.cosigner_core.specs.declared.error.ReadExportError.{ReadExportError}
 use Rattle.cosigner_core.specs.declared.lists.Export.{Export}
 use Rattle.cosigner_core.specs.declared.step.Step.{Step}
 use Rattle.cosigner_core.specs.declared.step.Step.TheVariants.{Sign}
@@ -37,6 +35,7 @@ use Rattle.mtc_laws.proofs.HeardBytes.{done_heard}
 use Rattle.mtc_top.proofs.Runs.{answered, wrote_of}
 use Rattle.mtc_top.specs.Executions.{program, Run}
 use Rattle.mtc_laws.proofs.Aliases.{IsRun}
+use Rattle.mtc_laws.proofs.Aliases.{ModelsFiles}
 
 -- An export in which two signatures are in conflict.
 pub record IsInConflict (h : HashFunction) (text : List ℕ) : Type 0 where
@@ -46,10 +45,10 @@ pub record IsInConflict (h : HashFunction) (text : List ℕ) : Type 0 where
 
 -- what is asked for
 asked : (h : HashFunction) (files : Files) (kept text : List ℕ)
-    → HoldsText files kept 1073741824 text → (is : IsInConflict h text)
+    → HoldsText files kept 8589934592 text → (is : IsInConflict h text)
     → quarrel_outcome h kept files ≡ quarrel_by h is.export.steps (Some is.found.0)
 asked h files kept text holds is =
-    bytes_read 1073741824 kept (files kept) text (quarrel_says h kept) holds.there holds.few
+    bytes_read 8589934592 kept (files kept) text (quarrel_says h kept) holds.there holds.few
     ∙ ap (λ r. with_form export_fault_text kept r (quarrel_kept h)) is.read
     ∙ ap (quarrel_by h is.export.steps) is.found.1
 
@@ -74,7 +73,7 @@ module _ {R S D O E : Type 0} (h : HashFunction) (rooms : Rooms R S D) (disks : 
   pub conflict_convicts : (old : R) (run : Run R O E) (kept kept_text : List ℕ)
       → rooms.is_modelled old → IsRun h rooms disks outs errs old run
       → command_of run.words ≡ Ok (quarrel kept)
-      → HoldsText (rooms.file old) kept 1073741824 kept_text → IsInConflict h kept_text
+      → HoldsText (rooms.file old) kept 8589934592 kept_text → IsInConflict h kept_text
       → run.status ≢ 5 → run.status ≢ 6 → run.status ≢ 8
       → Convicts h (program h rooms disks outs errs) run
   conflict_convicts old run kept kept_text is_modelled is_run spoken holds is not5 not6 not8 =
@@ -91,8 +90,7 @@ module _ {R S D O E : Type 0} (h : HashFunction) (rooms : Rooms R S D) (disks : 
 
 module _ {R S D O E : Type 0} (h : HashFunction) (rooms : Rooms R S D) (disks : Disks D)
     (outs : Sinks O) (errs : Sinks E) (crash_state : ReadsCrashState disks) (only : OnlyNow disks)
-    (contents : (room : R) (name : List ℕ) → rooms.is_modelled room
-    → ModelsFile disks.contents (rooms.file room name) (rooms.device room name))
+    (contents : ModelsFiles rooms disks)
     (bytes : (d : D) (b : List ℕ) → disks.contents d ≡ Some b → IsBytes b) where
   in_conflict : (kept_text : List ℕ) → HasSignedTwice h (program h rooms disks outs errs) kept_text
       → IsInConflict h kept_text

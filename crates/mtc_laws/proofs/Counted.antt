@@ -1,20 +1,23 @@
 -- What `cosign` printed counts for each store that has the cosigner's id and key.
-use Rattle.std.proofs.Common.{◌≡◌, ℕ, ◌+◌, ◌^◌, ◌<◌, Bool, true, false, List, []}
+use Rattle.std.proofs.Common.{◌≡◌, ℕ, ◌^◌, ◌<◌, Bool, true, false, List, []}
 use Rattle.std.proofs.Common.{◌∷◌, ◌++◌, length, None, Some, Ok, refl, sym, subst, ap}
 use Rattle.std.proofs.Common.{◌∙◌, arith}
 use Rattle.std.specs.Int.{w32, to_be_bytes}
-use Rattle.std.specs.Prelude.{slice_get}
+use Rattle.std.specs.Prelude.{Option, slice_get, ◌/◌, ◌%◌}
 use Rattle.std.specs.List.{AllByRecursion, Contains, flat_map}
-use Rattle.std.proofs.lemmas.List.{length-append}
+use Rattle.std.proofs.lemmas.List.{length-append, length-take-le}
 use Rattle.byte_formats.specs.Offsets.{IsBytes}
 use Rattle.byte_formats.specs.Types.{HashFunction}
 use Rattle.tls_wire.specs.Arcs.{IsAnchorId}
 use Rattle.lms_core.specs.Heights.{height}
-use Rattle.lms_core.specs.Trees.{lms_signature, private_key}
-use Rattle.lms_core.proofs.Verifies.{length-lms_signature}
+use Rattle.lms_core.specs.Trees.{lms_public, lms_signature}
+use Rattle.lms_core.specs.declared.heights.LmsType.{LmsType}
+use Rattle.lms_core.specs.declared.private_key.PrivateKey.{PrivateKey}
+use Rattle.lms_core.proofs.Verifies.{length-lms_public, length-lms_signature}
 use Rattle.hss_core.specs.Hss.{Verifies, one_level_signature}
-use Rattle.hss_keys.specs.Keys.{SigningKey, key_signature, keys_there, public_of, signing_key}
-use Rattle.hss_core.proofs.Verifies.{signature_verifies}
+use Rattle.hss_keys.specs.Keys.{SigningKey, lower_key, lower_secret, public_of, signature_with}
+use Rattle.hss_keys.specs.Keys.{signing_key, two_level_signature}
+use Rattle.hss_keys.proofs.Newest.{length-lower_secret, signed_verifies}
 use Rattle.disk_core.specs.declared.disk.Disk.{Ghosts as Disks}
 use Rattle.journal_core.specs.Folds.{state_after}
 use Rattle.journal_core.specs.Format.{AreRecordsAt, end_offset}
@@ -23,7 +26,6 @@ use Rattle.journal_core.proofs.Standing.{found_stands}
 use Rattle.file_events.specs.Executions.{IsPrefix}
 use Rattle.file_events.proofs.Stays.{first_held}
 use Rattle.mtc_io.specs.declared.sink.Sink.{Ghosts as Sinks}
-use Rattle.mtc_room.specs.Room.{ModelsFile}
 use Rattle.mtc_room.specs.declared.room.Room.{Ghosts as Rooms}
 use Rattle.mtc_proof.specs.Inputs.{signed_text}
 use Rattle.mtc_proof.specs.Proofs.{IsMtcSignature, ProofParts, SigParts, signature_text}
@@ -45,11 +47,12 @@ use Rattle.cosigner_core.proofs.Forms.{subtree_only}
 use Rattle.cosigner_core.proofs.Names.{Began, began_first}
 use Rattle.cosigner_core.proofs.Allowed.{key_left, none_first}
 use Rattle.cosigner_core.proofs.After.{no_cosigner}
+use Rattle.cosigner_core.proofs.Counts.{counts_up}
 use Rattle.cosigner_core.proofs.Keys.{few_keys}
 use Rattle.party_history.specs.Rules.{StartsWith}
 use Rattle.party_history.specs.declared.start.PartyStart.{PartyStart}
 use Rattle.party_history.specs.declared.start.PartyStart.TheVariants.{Cosigner}
-use Rattle.party_history.proofs.Cosigners.{number_added, of_first, sign_read}
+use Rattle.party_history.proofs.Cosigners.{of_first, sign_read}
 use Rattle.mtc_words.specs.Commands.{cosign}
 use Rattle.mtc_command.specs.Made.{appended}
 use Rattle.mtc_command.proofs.Made.{OnlyNow, ReadsCrashState}
@@ -63,6 +66,7 @@ use Rattle.mtc_laws.proofs.Streams.{plain_command}
 use Rattle.mtc_laws.proofs.Leaves.{first_own, serves}
 use Rattle.mtc_laws.proofs.Printed.{did_so, heard_so}
 use Rattle.mtc_laws.proofs.Recovered.{crash_state_list, each_held, held_prefix, modelled_then}
+use Rattle.mtc_laws.proofs.Aliases.{ModelsFiles}
 use Rattle.mtc_laws.specs.CountLaws.{PrintedSignaturesCount, signature_of}
 
 -- ---- a cosigner keeps its key, and the next one-time key is one of its keys
@@ -70,7 +74,7 @@ use Rattle.mtc_laws.specs.CountLaws.{PrintedSignaturesCount, signature_of}
 key_of_first : (h : HashFunction) (settings : CosignerSettings) (first secret : List ℕ)
     (bodies : List (List ℕ)) (s : CosignerState) → cosigner_in first ≡ Some (settings, secret)
     → cosigner_of h (first ∷ bodies) ≡ Ok s
-    → s.key.key ≡ signing_key settings.lms None settings.ots secret
+    → s.key.key ≡ signing_key settings.lms settings.low settings.ots secret
 key_of_first h settings first secret bodies s begins is =
     ap (λ (x : Began). x.2) (began_first h settings first secret bodies s begins is)
 
@@ -80,28 +84,54 @@ next_below h s broken end r is =
     key_left h s r (none_first (subtree_refusal h s r)
     (journal_refusal broken end (sign_record s.key.next r.start r.end r.hash r.proof)) is)
 
+-- ---- how long its signatures are
+
+signature_length : (top : PrivateKey) (low : Option LmsType) (q : ℕ) (text : List ℕ)
+    → length (signature_with top low q text) < 2 ^ 16
+unfolding one_level_signature two_level_signature
+signature_length top None q text =
+    omega (
+      arith,
+      length-append (to_be_bytes w32 0) (lms_signature top q text),
+      length-lms_signature top q text,
+      signature_short top.lms top.ots,
+    )
+signature_length top (Some low) q text =
+    let c = q / 2 ^ height low in
+    let lower = lower_key top low c in
+    let number = to_be_bytes w32 1 in
+    let public = lms_public lower in
+    let upper = lms_signature top c public in
+    let signed = lms_signature lower (q % 2 ^ height low) text in
+    let long = length-lower_secret top.id c top.seed in
+    let id = length-take-le 16 (lower_secret top.id c top.seed) (omega (arith, long)) in
+    omega (
+      arith,
+      length-append (number ++ upper ++ public) signed,
+      length-append (number ++ upper) public,
+      length-append number upper,
+      length-lms_signature top c public,
+      length-lms_public lower id,
+      length-lms_signature lower (q % 2 ^ height low) text,
+      signature_short top.lms top.ots,
+      signature_short low top.ots,
+    )
+
 -- ---- what it signs counts
 
 signature_is : (h : HashFunction) (settings : CosignerSettings) (public first : List ℕ)
     (bodies : List (List ℕ)) (s : CosignerState) (r : SubtreeParts)
     → StartsWith (Cosigner settings public) first → IsBytes first
     → cosigner_of h (first ∷ bodies) ≡ Ok s → IsMtcSignature (signature_of s r)
-unfolding one_level_signature
 signature_is h settings public first bodies s r starts bytes made =
     let takes = (cosigner_takes first settings starts.0 bytes starts.1.0).1 in
     let own = of_first h settings public first bodies s starts made in
-    let kept = key_of_first h settings first starts.0 bodies s starts.1.0 made in
     let id : IsAnchorId s.id = subst IsAnchorId (sym own.0) takes.id in
     let text = signed_text s.id s.log r.start r.end r.hash in
-    let tree = private_key settings.lms settings.ots starts.0 in
-    let size = length-lms_signature tree s.key.next text in
-    let short = signature_short settings.lms settings.ots in
-    let whole = length-append (to_be_bytes w32 0) (lms_signature tree s.key.next text) in
-    let same = ap (λ (x : SigningKey). length (key_signature x s.key.next text)) kept in
     record {
       some = id.some;
       cosigner = omega (arith, id.short);
-      signature = omega (arith, same, whole, size, short);
+      signature = signature_length s.key.key.top s.key.key.low s.key.next text;
     }
 
 counts_so : (h : HashFunction) (settings : CosignerSettings) (public first : List ℕ)
@@ -120,14 +150,13 @@ counts_so h settings public first bodies s r starts bytes made few store index k
     let takes = (cosigner_takes first settings secret bytes starts.1.0).1 in
     let own = of_first h settings public first bodies s starts made in
     let kept = key_of_first h settings first secret bodies s starts.1.0 made in
-    let below : s.key.next < 2 ^ height settings.lms =
-    subst (λ (x : SigningKey). s.key.next < keys_there x.top.lms x.low s.key.children) kept few in
+    let long : length s.key.key.top.id ≡ 16 = ap (λ (x : SigningKey). length x.top.id) kept
+    ∙ length-take-le 16 secret (omega (arith, takes.sized)) in
+    let counts = (counts_up h (first ∷ bodies) s made).1 in
     let text = signed_text s.id s.log r.start r.end r.hash in
     let signature = signature_by s r.start r.end r.hash in
     let by_key : Verifies (public_of s.key.key) text signature =
-    subst (λ (x : SigningKey). Verifies (public_of x) text (key_signature x s.key.next text))
-    (sym kept)
-    (signature_verifies settings.lms settings.ots secret text s.key.next takes.sized below) in
+    signed_verifies s.key text long counts.few few in
     let id_is : s.id ≡ known.id = own.0 ∙ sym id in
     let text_is : text ≡ signed_text known.id store.log proof.start proof.end r.hash =
     ap (λ (i : List ℕ). signed_text i s.log r.start r.end r.hash) id_is
@@ -160,8 +189,7 @@ begins_so h (x ∷ xs) body first rest others more found s is one two =
 
 module _ {R S D O E : Type 0} (h : HashFunction) (rooms : Rooms R S D) (disks : Disks D)
     (outs : Sinks O) (errs : Sinks E) (crash_state : ReadsCrashState disks) (only : OnlyNow disks)
-    (contents : (room : R) (name : List ℕ) → rooms.is_modelled room
-    → ModelsFile disks.contents (rooms.file room name) (rooms.device room name))
+    (contents : ModelsFiles rooms disks)
     (bytes : (d : D) (b : List ℕ) → disks.contents d ≡ Some b → IsBytes b) where
   pub signatures_count : PrintedSignaturesCount h (program h rooms disks outs errs)
   signatures_count name start first begins new events begun execution settings public file is =
@@ -202,10 +230,10 @@ module _ {R S D O E : Type 0} (h : HashFunction) (rooms : Rooms R S D) (disks : 
       let state = s.found.state in
       let list = s.found.records in
       let are = file_bytes disks (rooms.file old name) (rooms.device old name) s.held bytes
-      (contents old name is_modelled) s.there in
+      (contents.0 old name is_modelled) s.there in
       let held = found_stands (cosigner_fold h) s.held s.found are s.is_cosigner in
       let asked = file_bytes disks (rooms.file old file) (rooms.device old file) s.bytes bytes
-      (contents old file is_modelled) s.has_bytes.there in
+      (contents.0 old file is_modelled) s.has_bytes.there in
       let body = sign_record state.key.next r.start r.end r.hash r.proof in
       let signs = sign_read h state r false (end_offset list) (few_keys h list state held.1)
       (subtree_only s.bytes r asked s.asked).1 s.fits in
@@ -229,8 +257,6 @@ module _ {R S D O E : Type 0} (h : HashFunction) (rooms : Rooms R S D) (disks : 
           cosigner_is = held.1;
           body = body;
           did = did;
-          uses = number_added h list state body state.key.next r.start r.end r.hash r.proof held.1
-              signs;
           signs = signs;
           printed = printed_so h rooms disks outs errs old run is_run heard
               (plain_command h command spoken refl) (cosigned_text state r)

@@ -10,7 +10,6 @@ use Rattle.byte_formats.proofs.Values.{map_some}
 use Rattle.disk_core.specs.declared.disk.Disk.{Ghosts as Disks}
 use Rattle.journal_core.proofs.Standing.{found_stands}
 use Rattle.mtc_io.specs.declared.sink.Sink.{Ghosts as Sinks}
-use Rattle.mtc_room.specs.Room.{ModelsFile}
 use Rattle.mtc_room.specs.declared.room.Room.{Ghosts as Rooms}
 use Rattle.mtc_words.specs.Commands.{export}
 use Rattle.mtc_words.specs.Words.{command_of}
@@ -40,6 +39,7 @@ use Rattle.mtc_laws.proofs.HeardRuns.{file_bytes, heard_run, streamed_so, modell
 use Rattle.mtc_laws.proofs.HeardRuns.{contents_crash_state}
 use Rattle.mtc_top.specs.Executions.{program, IsBegun, Run, FileEvent}
 use Rattle.mtc_laws.proofs.Aliases.{IsRun, IsOwnExecution, IsRecovered, IsHeard}
+use Rattle.mtc_laws.proofs.Aliases.{ModelsFiles}
 
 -- ---- the steps of records
 
@@ -88,8 +88,7 @@ read_cosigner h start settings public bytes list is read =
 
 module _ {R S D O E : Type 0} (h : HashFunction) (rooms : Rooms R S D) (disks : Disks D)
     (outs : Sinks O) (errs : Sinks E) (crash_state : ReadsCrashState disks) (only : OnlyNow disks)
-    (contents : (room : R) (name : List ℕ) → rooms.is_modelled room
-    → ModelsFile disks.contents (rooms.file room name) (rooms.device room name))
+    (contents : ModelsFiles rooms disks)
     (bytes : (d : D) (b : List ℕ) → disks.contents d ≡ Some b → IsBytes b) where
   module _ (name : List ℕ) (start : PartyStart) (first : List ℕ) (begins new : R)
       (events : List (FileEvent R O E))
@@ -113,7 +112,7 @@ module _ {R S D O E : Type 0} (h : HashFunction) (rooms : Rooms R S D) (disks : 
         new
         events begun execution c (inr there) in
         let opened = read_cosigner h start settings public c party.records is party.read in
-        let models_file = contents new name is_modelled in
+        let models_file = contents.0 new name is_modelled in
         let are = file_bytes disks (rooms.file new name) (rooms.device new name) c bytes models_file
         there in
         let found : FoundCosigner = record { records = party.records; state = opened.0 } in

@@ -5,7 +5,6 @@ use Rattle.byte_formats.specs.Types.{HashFunction}
 use Rattle.file_events.specs.Executions.{IsPrefix}
 use Rattle.disk_core.specs.declared.disk.Disk.{Ghosts as Disks}
 use Rattle.mtc_io.specs.declared.sink.Sink.{Ghosts as Sinks}
-use Rattle.mtc_room.specs.Room.{ModelsFile}
 use Rattle.mtc_room.specs.declared.room.Room.{Ghosts as Rooms}
 use Rattle.mtc_words.specs.Commands.{export}
 use Rattle.mtc_words.specs.Words.{command_of}
@@ -23,11 +22,11 @@ use Rattle.mtc_laws.proofs.Secrets.{says_so}
 use Rattle.mtc_laws.proofs.HeardRuns.{heard_read}
 use Rattle.mtc_top.specs.Executions.{program, HasStreamed, Run, FileEvent}
 use Rattle.mtc_laws.proofs.Aliases.{IsRun, DidWith, HasHeld, IsHeard}
+use Rattle.mtc_laws.proofs.Aliases.{ModelsFiles}
 
 module _ {R S D O E : Type 0} (h : HashFunction) (rooms : Rooms R S D) (disks : Disks D)
     (outs : Sinks O) (errs : Sinks E) (crash_state : ReadsCrashState disks) (only : OnlyNow disks)
-    (contents : (room : R) (name : List ℕ) → rooms.is_modelled room
-    → ModelsFile disks.contents (rooms.file room name) (rooms.device room name))
+    (contents : ModelsFiles rooms disks)
     (bytes : (d : D) (b : List ℕ) → disks.contents d ≡ Some b → IsBytes b) where
   module _ (name : List ℕ) (begins new : R) (events : List (FileEvent R O E))
       (settings : CosignerSettings) (public : List ℕ) (run : Run R O E)

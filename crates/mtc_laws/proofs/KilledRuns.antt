@@ -9,7 +9,6 @@ use Rattle.disk_core.specs.declared.memory.mem_disk.MemDisk.{MemDisk}
 use Rattle.mtc_io.specs.Counts.{last_count}
 use Rattle.mtc_io.specs.declared.sink.Sink.{Ghosts as Sinks}
 use Rattle.mtc_room.specs.Memory.{bytes_in, disk_in}
-use Rattle.mtc_room.specs.Room.{ModelsFile}
 use Rattle.mtc_room.specs.contracts.memory.MemRoomRoom.TheImpl.{ghosts as mem_rooms}
 use Rattle.mtc_room.specs.declared.room.Room.{Ghosts as Rooms}
 use Rattle.fuse_room.specs.Fused.{fused, inner_room}
@@ -32,14 +31,14 @@ use Rattle.mtc_top.specs.Facts.{facts}
 use Rattle.mtc_laws.specs.TileLaws.{tiled_log}
 use Rattle.mtc_laws.proofs.Leaves.{serves}
 use Rattle.mtc_laws.proofs.LogLeaves.{serves_log}
+use Rattle.mtc_laws.proofs.Aliases.{ModelsFiles}
 use Rattle.mtc_laws.specs.Killed.{DiesOverFuses, JournalsMayBreak, LogsMayBreak}
 
 -- ---- any files
 
 module _ {R S D O E : Type 0} (h : HashFunction) (rooms : Rooms R S D) (disks : Disks D)
     (outs : Sinks O) (errs : Sinks E) (crash_state : ReadsCrashState disks) (only : OnlyNow disks)
-    (contents : (room : R) (name : List ℕ) → rooms.is_modelled room
-    → ModelsFile disks.contents (rooms.file room name) (rooms.device room name))
+    (contents : ModelsFiles rooms disks)
     (bytes : (d : D) (b : List ℕ) → disks.contents d ≡ Some b → IsBytes b) where
   pub journals_may_break : JournalsMayBreak h (program h rooms disks outs errs)
   journals_may_break name own = journal_breaks (program h rooms disks outs errs) (AreRecords h) name
@@ -65,7 +64,7 @@ same_inside (Some d) = refl
 
 -- what the words ask to be done with a journal of these files
 abbrev did_by : HashFunction → (Text → Option Text) → Text → List Text → Journaled
-did_by h file name words = done_to (done_with (facts h (command_of words)).journals
+did_by h file name words = done_to (λ path. path) (done_with (facts h (command_of words)).journals
     ((facts h (command_of words)).outcome file).journals) name
 
 module _ {O E : Type 0} (h : HashFunction) (outs : Sinks O) (errs : Sinks E) where

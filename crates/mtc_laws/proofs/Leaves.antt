@@ -1,14 +1,11 @@
 -- What a run leaves of a journal is an event of it.
-use Rattle.std.proofs.Common.{◌≡◌, ◌≢◌, ◌⊎◌, inl, inr, ℕ, true, false, Bool, List, [], ◌∷◌, ◌++◌}
-use Rattle.std.proofs.Common.{◌||◌, ◌==◌, length, length-append, Option, None, Some, Result, Ok}
-use Rattle.std.proofs.Common.{Err, refl, sym, subst, ap, ◌∙◌, arith, rules, true≢false}
-use Rattle.std.proofs.Common.{if◌then◌else◌}
+use Rattle.std.proofs.Common.{◌≡◌, ◌⊎◌, inl, inr, ℕ, true, false, Bool, List, [], ◌∷◌, ◌++◌}
+use Rattle.std.proofs.Common.{◌||◌, ◌==◌, length, length-append, Option, None, Some}
+use Rattle.std.proofs.Common.{refl, sym, subst, ap, ◌∙◌, arith, rules}
 use Rattle.std.proofs.lemmas.Bool.{eq-eqb, ne_eqb, or_left, or_right}
-use Rattle.std.proofs.lemmas.Slice.Eq.{bytes_eq-Decides}
-use Rattle.std.specs.Str.{bytes_eq}
 use Rattle.std.proofs.lemmas.Option.{none-some}
 use Rattle.byte_formats.specs.Offsets.{IsBytes}
-use Rattle.byte_formats.specs.Types.{HashFunction}
+use Rattle.byte_formats.specs.Types.{HashFunction, Text}
 use Rattle.disk_core.specs.Disk.{NoNew}
 use Rattle.disk_core.specs.declared.disk.Disk.{Ghosts as Disks}
 use Rattle.file_events.specs.Events.{CrashStates, Done, HalfDone, Happens}
@@ -25,63 +22,24 @@ use Rattle.mtc_room.specs.declared.room.Room.{Ghosts as Rooms}
 use Rattle.mtc_words.specs.Words.{command_of, known_word}
 use Rattle.mtc_command.specs.Made.{HasKept, HasMade, Journaled, Kept, Leaves, MayHaveMade, appended}
 use Rattle.mtc_command.specs.Made.{device_contents, reads, started, untouched}
-use Rattle.mtc_command.specs.Served.{IsOther, Journals, LeavesEach, OfEach, done_with}
-use Rattle.mtc_command.specs.Served.{first_journaled, rest_journaled}
+use Rattle.mtc_command.specs.Served.{IsOther, Journals, LeavesEach}
 use Rattle.mtc_command.specs.Valid.{LeavesValid}
 use Rattle.mtc_command.proofs.Made.{OnlyNow, ReadsCrashState}
 use Rattle.mtc_command.proofs.Served.{other_both}
 use Rattle.party_history.specs.Rules.{AreRecords}
 use Rattle.mtc_top.specs.Facts.{facts}
-use Rattle.mtc_laws.proofs.Beside.{IsOwn, journal_own, none_beside}
+use Rattle.mtc_laws.proofs.Beside.{IsOwn, journal_own, none_beside, own_place}
 use Rattle.mtc_laws.proofs.Commands.{spoken_records}
 use Rattle.mtc_laws.proofs.HeardBytes.{ended_whole, unheard, unheard_broke}
 use Rattle.mtc_laws.proofs.Opened.{Finds, IsFound, IsNewAt, spoken_finds, spoken_new}
 use Rattle.mtc_top.proofs.Runs.{ended, not5_of, not8_of}
 use Rattle.mtc_top.specs.Executions.{program, Run, FileEvent}
 use Rattle.mtc_laws.specs.RunLaws.{AreAmong}
+pub use Rattle.mtc_laws.proofs.DoneAt.{IsDoneAt, done_alike, find_name, of_each}
 use Rattle.mtc_laws.proofs.Aliases.{IsRun, owner_of, crash_states_in, crash_states_from}
 use Rattle.mtc_laws.proofs.Aliases.{journal_events}
 use Rattle.mtc_laws.proofs.Aliases.{HasHeld}
-
--- ---- the journals of a run
-
--- a name is none of these, or it is that of the journal with which this was done
-pub find_name : (names : List (List ℕ)) (dids : List Journaled) (name : List ℕ)
-    → (IsOther names name × (done_to (done_with names dids) name ≡ untouched))
-    ⊎ AreAmong (done_with names dids) name (done_to (done_with names dids) name)
-find_name [] dids name = inl (tt, refl)
-find_name (other ∷ others) dids name =
-    go (bytes_eq other name) refl (find_name others (rest_journaled dids) name)
-  where
-    go : (b : Bool) → bytes_eq other name ≡ b
-        → (IsOther others name
-        × (done_to (done_with others (rest_journaled dids)) name ≡ untouched))
-        ⊎ AreAmong (done_with others (rest_journaled dids)) name
-        (done_to (done_with others (rest_journaled dids)) name)
-        → (IsOther (other ∷ others) name × ((if b then first_journaled dids
-        else done_to (done_with others (rest_journaled dids)) name) ≡ untouched))
-        ⊎ AreAmong (done_with (other ∷ others) dids) name (if b then first_journaled dids
-        else done_to (done_with others (rest_journaled dids)) name)
-    go true is rest = inr (inl ((bytes_eq-Decides other name).0 is, refl))
-    go false is rest = elim rest [
-      | inl none ↦ inl (
-        (
-          λ same. absurd (true≢false (sym ((bytes_eq-Decides other name).1 (sym same)) ∙ is)),
-          none.0,
-        ),
-        none.1,
-      )
-      | inr there ↦ inr (inr there)
-    ]
-
-pub of_each : (P : List ℕ → Journaled → Type 0) (journals : Journals) (name : List ℕ)
-    (did : Journaled) → OfEach P journals → AreAmong journals name did → P name did
-of_each P [] name did all among = absurd among
-of_each P (j ∷ js) name did all among = elim among [
-  | inl here ↦ subst (λ (d : Journaled). P name d) here.1
-      (subst (λ (n : List ℕ). P n j.1) here.0 all.0)
-  | inr there ↦ of_each P js name did all.1 there
-]
+use Rattle.mtc_laws.proofs.Aliases.{ModelsFiles}
 
 -- ---- files
 
@@ -127,6 +85,15 @@ now_of g only (Some d) c is = only d c is
 pub one_longer : (list : List (List ℕ)) (body : List ℕ) → list ≡ list ++ body ∷ [] → ⊥
 one_longer list body is = omega (arith, ap length is, length-append list (body ∷ []))
 
+-- An event of a journal, and one of a run that broke off at each time of it: of a device before and
+-- after a run that did this.
+pub record Goes {D : Type 0} (g : Disks D) (Valid : List Text → Type 0) (broken heard : Bool)
+    (did : Journaled) (before now : Option D) : Type 0 where
+  pub happens : Happens Valid (event_with broken heard did) (states_at g before) (states_at g now)
+  pub times : (c : Text) → states_since g now (clock_of g before) c
+      → NoNew (states_at g before) (λ d. d ≡ c)
+      ⊎ HalfDone Valid did (states_at g before) (λ d. d ≡ c)
+
 -- ---- an event of a journal that isn't opened
 
 idle_happens : (Valid : List (List ℕ) → Type 0) (before now : CrashStates) (broken heard : Bool)
@@ -141,15 +108,14 @@ idle_holds list false heard held = none-some list held
 
 module _ {R S D O E : Type 0} (h : HashFunction) (rooms : Rooms R S D) (disks : Disks D)
     (outs : Sinks O) (errs : Sinks E) (crash_state : ReadsCrashState disks) (only : OnlyNow disks)
-    (contents : (room : R) (name : List ℕ) → rooms.is_modelled room
-    → ModelsFile disks.contents (rooms.file room name) (rooms.device room name))
+    (contents : ModelsFiles rooms disks)
     (bytes : (d : D) (b : List ℕ) → disks.contents d ≡ Some b → IsBytes b) where
   abbrev Js : R → Run R O E → Journals
   Js = (program h rooms disks outs errs).journals
 
   -- what a run did with the journal of a name
   abbrev Done' : List ℕ → R → Run R O E → Journaled
-  Done' name old run = done_to (Js old run) name
+  Done' name old run = done_to rooms.leads_to (Js old run) name
 
   abbrev pub Rules : Run R O E → List (List ℕ) → Type 0
   Rules run = (facts h (command_of run.words)).Valid
@@ -177,13 +143,13 @@ module _ {R S D O E : Type 0} (h : HashFunction) (rooms : Rooms R S D) (disks : 
     some : (c : List ℕ) × Now c
     some =
         some_crash_state disks (rooms.file run.room name) (rooms.device run.room name) crash_state
-        (contents run.room name (is_run.back.is_modelled is_modelled))
+        (contents.0 run.room name (is_run.back.is_modelled is_modelled))
 
     -- the file that was read is a crash state
     pub reported : (c : List ℕ) → rooms.file old name ≡ Some c → device_contents disks
         (rooms.device old name) ≡ Some c
     reported c there = modelled_file disks (rooms.file old name) (rooms.device old name)
-        (contents old name is_modelled) ∙ there
+        (contents.0 old name is_modelled) ∙ there
 
     pub found : (list : List (List ℕ)) → IsFound (Rules run) (rooms.file old name) list
         → WasFound Valid Before list
@@ -206,7 +172,7 @@ module _ {R S D O E : Type 0} (h : HashFunction) (rooms : Rooms R S D) (disks : 
     empty_before body is_new c at = elim is_new [
       | inl on ↦ absurd on
       | inr none ↦ none_left disks (rooms.file old name) (rooms.device old name) c
-          (contents old name is_modelled) none at
+          (contents.0 old name is_modelled) none at
     ]
 
     -- an added record follows the rules: the journal can't be as it was
@@ -309,17 +275,13 @@ module _ {R S D O E : Type 0} (h : HashFunction) (rooms : Rooms R S D) (disks : 
       knows = record {
         finds = of_each (λ n d. Finds (Rules run) (rooms.file old n) d) (Js old run) name did
             (spoken_finds h (rooms.file old) (λ n c is. file_bytes disks (rooms.file old n)
-            (rooms.device old n) c bytes (contents old n is_modelled) is)
+            (rooms.device old n) c bytes (contents.0 old n is_modelled) is)
             (command_of run.words)) among;
         is_new = of_each (IsNewAt (rooms.file old)) (Js old run) name did
             (spoken_new h (command_of run.words) (rooms.file old)) among;
         valid = of_each (LeavesValid rooms disks (Rules run) old run.room) (Js old run) name did
             (is_run.valid is_modelled) among;
       }
-
-      record Goes : Type 0 where
-        pub happens : Happens Valid (event_with broken heard did) Before Now
-        pub times : (c : List ℕ) → Between c → Left c did
 
       abbrev Broken : Bool → Type 0
       Broken b = Happens Valid (event_with b heard did) Before Now
@@ -335,7 +297,8 @@ module _ {R S D O E : Type 0} (h : HashFunction) (rooms : Rooms R S D) (disks : 
       left_so How all = (of_each (λ n d. Leaves disks (How d) (rooms.device old n)
           (rooms.device run.room n)) (Js old run) name did all among).crash_states
 
-      goes : Goes
+      pub goes : Goes disks Valid broken heard did (rooms.device old name)
+          (rooms.device run.room name)
       goes = elim (ended h rooms disks outs errs run.words old run.room run.out run.out_after
           run.err run.err_after run.status is_run) [
             | inl a ↦
@@ -382,11 +345,12 @@ module _ {R S D O E : Type 0} (h : HashFunction) (rooms : Rooms R S D) (disks : 
           ]
 
     -- where it didn't work on the journal
-    module _ (beside : IsOther (facts h (command_of run.words)).besides name)
-        (other : IsOther (facts h (command_of run.words)).journals name) where
+    module _ (beside : IsOther rooms.leads_to (facts h (command_of run.words)).besides name)
+        (other : IsOther rooms.leads_to (facts h (command_of run.words)).journals name) where
       pub still : rooms.device run.room name ≡ rooms.device old name
-      still = (is_run.back.others name (other_both (facts h (command_of run.words)).besides
-          (facts h (command_of run.words)).journals name beside other)).disk
+      still = (is_run.back.others name (other_both rooms.leads_to
+          (facts h (command_of run.words)).besides (facts h (command_of run.words)).journals name
+          beside other)).disk
 
       still_now : NoNew Before Now
       still_now c at = subst (λ (x : Option D). states_at disks x c) still at
@@ -396,35 +360,64 @@ module _ {R S D O E : Type 0} (h : HashFunction) (rooms : Rooms R S D) (disks : 
           (subst (λ (x : Option D). states_since disks x (clock_of disks (rooms.device old name)) c)
           still at)
 
-    pub leaves : IsOther (facts h (command_of run.words)).besides name
+      pub idle : (did : Journaled) → did ≡ untouched
+          → Goes disks Valid broken heard did (rooms.device old name) (rooms.device run.room name)
+      idle did is = record {
+        happens = subst (λ (d : Journaled). Happens Valid (event_with broken heard d) Before Now)
+            (sym is) (idle_happens Valid Before Now broken heard still_now);
+        times = λ c at. past c did (still_then c at);
+      }
+
+    pub event_of : (did : Journaled)
+        → Goes disks Valid broken heard did (rooms.device old name) (rooms.device run.room name)
+        → Done' name old run ≡ did
         → LeavesJournal (program h rooms disks outs errs) Valid name old run
-    leaves beside = elim (find_name (facts h (command_of run.words)).journals
+    event_of did is same = record {
+      leads = record {
+        some = some;
+        happens = subst (λ (d : Journaled). Happens Valid (event_with broken heard d) Before Now)
+            (sym same) is.happens;
+      };
+      times = λ c at. record {
+        some = (c, refl);
+        happens = subst (λ (d : Journaled). Left c d) (sym same) (is.times c at);
+      };
+    }
+
+  module _ (name : List ℕ) (old : R) (run : Run R O E) (is_modelled : rooms.is_modelled old)
+      (is_run : IsRun h rooms disks outs errs old run) (Valid : List (List ℕ) → Type 0)
+      (keeps : (list : List (List ℕ)) → Rules run list → Valid list) where
+    -- the journal that has the place of this name is that of another name
+    abbrev GoesAt : Journaled → Option D → Option D → Type 0
+    GoesAt did before now = Goes disks Valid (broke_off (program h rooms disks outs errs) run)
+        (heard_of (program h rooms disks outs errs) run) did before now
+
+    carried : (did : Journaled) → IsDoneAt rooms.leads_to (Js old run) name did
+        → GoesAt did (rooms.device old name) (rooms.device run.room name)
+    carried did at =
+        let first = contents.1 old at.0 name is_modelled at.1.0 in
+        let last = contents.1 run.room at.0 name (is_run.back.is_modelled is_modelled) at.1.0 in
+        subst (λ (x : Option D). GoesAt did x (rooms.device run.room name)) first
+        (subst (λ (x : Option D). GoesAt did (rooms.device old at.0) x) last
+        (goes at.0 old run is_modelled is_run Valid keeps did at.1.1))
+
+    pub leaves : IsOther rooms.leads_to (facts h (command_of run.words)).besides name
+        → LeavesJournal (program h rooms disks outs errs) Valid name old run
+    leaves beside = elim (find_name rooms.leads_to (facts h (command_of run.words)).journals
         ((facts h (command_of run.words)).outcome (rooms.file old)).journals name) [
-          | inl none ↦ record {
-            leads = record {
-              some = some;
-              happens = subst (λ (d : Journaled). Happens Valid (event_with broken heard d)
-                  Before Now) (sym none.1)
-                  (idle_happens Valid Before Now broken heard (still_now beside none.0));
-            };
-            times = λ c at. record {
-              some = (c, refl);
-              happens = past c (Done' name old run) (still_then beside none.0 c at);
-            };
-          }
-          | inr among ↦
-              (let is = goes (Done' name old run) among in record {
-                leads = record { some = some; happens = is.happens };
-                times = λ c at. record { some = (c, refl); happens = is.times c at };
-              })
+          | inl none ↦ event_of name old run is_modelled is_run Valid keeps (Done' name old run)
+              (idle name old run is_modelled is_run Valid keeps beside none.0
+              (Done' name old run) none.1) refl
+          | inr found ↦ event_of name old run is_modelled is_run Valid keeps
+              (Done' name old run) (carried (Done' name old run) found) refl
         ]
 
   -- ---- the journal of a run that held records
 
   module _ (name : List ℕ) (old : R) (run : Run R O E) where
     pub held_among : (list : List (List ℕ)) → HasHeld h rooms disks outs errs name old run list
-        → AreAmong (Js old run) name (Done' name old run)
-    held_among list held = elim (find_name (facts h (command_of run.words)).journals
+        → IsDoneAt rooms.leads_to (Js old run) name (Done' name old run)
+    held_among list held = elim (find_name rooms.leads_to (facts h (command_of run.words)).journals
         ((facts h (command_of run.words)).outcome (rooms.file old)).journals name) [
           | inl none ↦ absurd (idle_holds list (broke_off (program h rooms disks outs errs) run)
               (heard_of (program h rooms disks outs errs) run)
@@ -437,9 +430,11 @@ module _ {R S D O E : Type 0} (h : HashFunction) (rooms : Rooms R S D) (disks : 
     -- its name isn't that of a tile file
     pub held_own : (list : List (List ℕ)) → HasHeld h rooms disks outs errs name old run list
         → IsOwn name
-    held_own list held = journal_own h run.words
-        ((facts h (command_of run.words)).outcome (rooms.file old)).journals name
-        (Done' name old run) (held_among list held)
+    held_own list held =
+        let found = held_among list held in
+        own_place rooms.leads_to found.0 name found.1.0 (journal_own h run.words
+        ((facts h (command_of run.words)).outcome (rooms.file old)).journals found.0
+        (Done' name old run) found.1.1)
 
     -- the records follow the rules of the command
     pub held_rules : (list : List (List ℕ)) → rooms.is_modelled old
@@ -450,7 +445,7 @@ module _ {R S D O E : Type 0} (h : HashFunction) (rooms : Rooms R S D) (disks : 
         (crash_states_in h rooms disks outs errs old name)
         (crash_states_in h rooms disks outs errs run.room name) held
         (leaves name old run is_modelled is_run (Rules run) (λ l is. is)
-        (none_beside h (command_of run.words) name (held_own list held))).leads
+        (none_beside rooms.leads_to h (command_of run.words) name (held_own list held))).leads
 
   -- in an execution the first run has such a name
   pub first_own : (name : List ℕ) (list : List (List ℕ)) (old : R) (events : List (FileEvent R O E))
@@ -467,9 +462,9 @@ module _ {R S D O E : Type 0} (h : HashFunction) (rooms : Rooms R S D) (disks : 
       modelled = λ old is_run is_modelled is. is.back.is_modelled is_modelled;
       some = λ room n is_modelled. some_crash_state disks (rooms.file room n) (rooms.device room n)
           crash_state
-          (contents room n is_modelled);
+          (contents.0 room n is_modelled);
     };
     leaves = λ old run is_modelled is. leaves name old run is_modelled is (AreRecords h)
         (spoken_records h (command_of run.words))
-        (none_beside h (command_of run.words) name own);
+        (none_beside rooms.leads_to h (command_of run.words) name own);
   }

@@ -28,11 +28,13 @@ mod CertTexts
 mod Certified
 mod Counted
 mod Covering
+mod DoneAt
 mod Issuable
 mod Listed
 mod PemTexts
 pub mod KilledRuns
 mod Monitored
+mod OneFile
 mod PathHashes
 mod PrintedSignatures
 mod RecordBytes

@@ -1,7 +1,6 @@
 -- What goes out of `issue-list`, and what becomes of the entries of its record.
-use Rattle.std.proofs.Common.{◌≡◌, ◌∙◌, ℕ, ◌+◌, ◌≤◌, false, List, [], ◌∷◌, ◌++◌, length, slice_get}
-use Rattle.std.proofs.Common.{option_map, Bool, None, Some, Ok, ap, sym, subst, refl}
-use Rattle.std.specs.Prelude.{map}
+use Rattle.std.proofs.Common.{◌≡◌, ◌∙◌, ℕ, ◌≤◌, false, List, [], ◌∷◌, ◌++◌, length, slice_get}
+use Rattle.std.proofs.Common.{option_map, Bool, None, Some, ap, sym, subst, refl}
 use Rattle.std.proofs.lemmas.List.{length-map}
 use Rattle.std.proofs.lemmas.Option.{slice_get-map}
 use Rattle.byte_formats.specs.Offsets.{IsBytes}
@@ -10,7 +9,6 @@ use Rattle.disk_core.specs.declared.disk.Disk.{Ghosts as Disks}
 use Rattle.journal_core.specs.Format.{end_offset}
 use Rattle.journal_core.proofs.Standing.{found_stands}
 use Rattle.mtc_io.specs.declared.sink.Sink.{Ghosts as Sinks}
-use Rattle.mtc_room.specs.Room.{ModelsFile}
 use Rattle.mtc_room.specs.declared.room.Room.{Ghosts as Rooms}
 use Rattle.mtc_words.specs.Commands.{issue_list}
 use Rattle.issuance_log.specs.Folds.{LogView, log_fold, log_of, view_in}
@@ -34,6 +32,7 @@ use Rattle.mtc_laws.proofs.Printed.{did_so, heard_so}
 use Rattle.mtc_laws.proofs.Recovered.{each_held, held_prefix, log_recovered}
 use Rattle.mtc_laws.proofs.Requested.{are_requests}
 use Rattle.mtc_laws.proofs.Streams.{plain_command}
+use Rattle.mtc_laws.proofs.Aliases.{ModelsFiles}
 use Rattle.mtc_top.specs.Executions.{WasHeld, program}
 
 -- the record of items that a log doesn't refuse is read as these
@@ -54,8 +53,7 @@ item_of h v requests items i r are there =
 
 module _ {R S D O E : Type 0} (h : HashFunction) (rooms : Rooms R S D) (disks : Disks D)
     (outs : Sinks O) (errs : Sinks E)
-    (contents : (room : R) (name : List ℕ) → rooms.is_modelled room
-    → ModelsFile disks.contents (rooms.file room name) (rooms.device room name))
+    (contents : ModelsFiles rooms disks)
     (bytes : (d : D) (b : List ℕ) → disks.contents d ≡ Some b → IsBytes b) where
   pub lists_printed : ListsArePrinted h (program h rooms disks outs errs)
   lists_printed name file old run is_modelled is_run spoken heard =
@@ -65,7 +63,7 @@ module _ {R S D O E : Type 0} (h : HashFunction) (rooms : Rooms R S D) (disks : 
       let state = s.found.state in
       let list = s.found.records in
       let are = file_bytes disks (rooms.file old name) (rooms.device old name) s.held bytes
-      (contents old name is_modelled) s.there in
+      (contents.0 old name is_modelled) s.there in
       let body = issued_batch h (view_in state) s.requests in
       let items = issued_items h (view_in state) s.requests in
       let some : 1 ≤ length items = subst (λ (n : ℕ). 1 ≤ n) (sym (length-map s.requests

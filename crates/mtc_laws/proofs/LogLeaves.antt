@@ -1,6 +1,6 @@
 -- What a run leaves of the journal of a log and of the file of its tiles, at once.
 use Rattle.std.proofs.Common.{◌≡◌, ◌⊎◌, inl, inr, ℕ, Bool, true, false, List, [], ◌∷◌, ◌++◌, Option}
-use Rattle.std.proofs.Common.{Some, subst, ◌∙◌}
+use Rattle.std.proofs.Common.{Some, codes, subst, sym, ◌∙◌}
 use Rattle.byte_formats.specs.Offsets.{IsBytes}
 use Rattle.byte_formats.specs.Types.{HashFunction, Text}
 use Rattle.disk_core.specs.Disk.{NoNew}
@@ -8,35 +8,38 @@ use Rattle.disk_core.specs.declared.disk.Disk.{Ghosts as Disks}
 use Rattle.file_events.specs.Events.{CrashStates, Done, HalfDone, Happens}
 use Rattle.file_events.specs.Owners.{ServesLog}
 use Rattle.file_events.specs.Tiles.{AllGo, LeavesTiles, stored}
-use Rattle.file_events.specs.Works.{LeavesAll, Work, journal_work, tiles_work}
+use Rattle.file_events.specs.Works.{LeavesAll, journal_work, tiles_work}
 use Rattle.file_events.specs.Worlds.{all_states, broke_off, done_to, event_with}
 use Rattle.file_events.specs.Worlds.{states_at, heard_of}
 use Rattle.file_events.proofs.Records.{one_list}
 use Rattle.journal_core.specs.Format.{Represents}
 use Rattle.mtc_io.specs.declared.sink.Sink.{Ghosts as Sinks}
-use Rattle.mtc_room.specs.Room.{ModelsFile}
 use Rattle.mtc_room.specs.declared.room.Room.{Ghosts as Rooms}
 use Rattle.mtc_words.specs.Words.{command_of}
 use Rattle.mtc_command.specs.Answers.{tiles_name}
 use Rattle.mtc_command.specs.Endings.{IsNamed}
 use Rattle.mtc_command.specs.Made.{Journaled, appended, reads, started, untouched}
-use Rattle.mtc_command.specs.Served.{IsOther, Journals}
+use Rattle.mtc_command.proofs.Beside.{plain_end}
+use Rattle.mtc_command.specs.Served.{IsOther, Journals, done_with}
+use Rattle.mtc_room.proofs.Places.{ends_alike}
 use Rattle.mtc_command.specs.Stored.{KeepsBoth, LeavesBoth, StoresBoth}
 use Rattle.mtc_command.proofs.Made.{OnlyNow, ReadsCrashState}
 use Rattle.mtc_command.proofs.Served.{other_both}
 use Rattle.mtc_authority.specs.StoredTiles.{HasTilesOf}
 use Rattle.party_history.specs.Rules.{AreRecords}
 use Rattle.mtc_top.specs.Facts.{Facts, facts}
-use Rattle.mtc_laws.proofs.Beside.{IsOwn, none_beside}
+use Rattle.mtc_laws.proofs.Beside.{IsOwn, journal_own, none_beside}
 use Rattle.mtc_laws.proofs.Commands.{spoken_records}
-use Rattle.mtc_laws.proofs.Leaves.{Knows, contents_crash_state, empty_before, file_bytes, find_name}
+use Rattle.mtc_laws.proofs.Leaves.{IsDoneAt, Knows, contents_crash_state, done_alike}
+use Rattle.mtc_laws.proofs.Leaves.{empty_before, file_bytes, find_name}
 use Rattle.mtc_laws.proofs.Leaves.{found}
 use Rattle.mtc_laws.proofs.Leaves.{knows, leaves, may_append, of_each, one_longer, serves, reported}
-use Rattle.mtc_laws.proofs.TilesBeside.{added_to, named_or_other, named_other, no_cosigner_log}
-use Rattle.mtc_laws.proofs.TilesBeside.{tiles_no_journal, tiles_other}
+use Rattle.mtc_laws.proofs.TilesBeside.{added_to, named_other, no_cosigner_log}
+use Rattle.mtc_laws.proofs.TilesBeside.{tiles_named, tiles_no_journal, tiles_other}
 use Rattle.mtc_top.specs.Executions.{program, Run}
 use Rattle.mtc_laws.specs.RunLaws.{AreAmong}
 use Rattle.mtc_laws.proofs.Aliases.{IsRun, crash_states_in}
+use Rattle.mtc_laws.proofs.Aliases.{ModelsFiles}
 
 -- a run that isn't about the journal leaves nothing new of it
 still_kept : (Valid : List Text → Type 0) (broken heard : Bool) (did : Journaled)
@@ -71,10 +74,21 @@ module _ (goes : List Text → Text → Type 0) (now before after : CrashStates)
       { keeps = λ all c at. all c (kept c at); following = λ all c at stands. on c at stands }
   read_left (started body) on = kept
 
+-- what is left of a journal and of the file of its tiles, by their devices before and now
+abbrev pub AllAt : {D : Type 0} → HashFunction → Disks D → Bool → Journaled → Option D → Option D
+    → Option D → Option D → Type 0
+AllAt h disks false d x x' y y' = Done (AreRecords h) d (states_at disks x) (states_at disks x')
+    × (LeavesTiles (HasTilesOf h) (λ list body. ⊥) stored d (states_at disks y)
+    (states_at disks x') (states_at disks y') × Unit {0})
+AllAt h disks true d x x' y y' = (NoNew (states_at disks x) (states_at disks x')
+    × (NoNew (states_at disks y) (states_at disks y') × Unit {0}))
+    ⊎ (HalfDone (AreRecords h) d (states_at disks x) (states_at disks x')
+    × (LeavesTiles (HasTilesOf h) (λ list body. ⊥) stored d (states_at disks y)
+    (states_at disks x') (states_at disks y') × Unit {0}))
+
 module _ {R S D O E : Type 0} (h : HashFunction) (rooms : Rooms R S D) (disks : Disks D)
     (outs : Sinks O) (errs : Sinks E) (crash_state : ReadsCrashState disks) (only : OnlyNow disks)
-    (contents : (room : R) (name : List ℕ) → rooms.is_modelled room
-    → ModelsFile disks.contents (rooms.file room name) (rooms.device room name))
+    (contents : ModelsFiles rooms disks)
     (bytes : (d : D) (b : List ℕ) → disks.contents d ≡ Some b → IsBytes b) where
   module _ (name : Text) (own : IsOwn name) (old : R) (run : Run R O E)
       (is_modelled : rooms.is_modelled old) (is_run : IsRun h rooms disks outs errs old run) where
@@ -91,7 +105,7 @@ module _ {R S D O E : Type 0} (h : HashFunction) (rooms : Rooms R S D) (disks : 
     js = (program h rooms disks outs errs).journals old run
 
     abbrev did : Journaled
-    did = done_to js name
+    did = done_to rooms.leads_to js name
 
     abbrev heard : Bool
     heard = heard_of (program h rooms disks outs errs) run
@@ -123,18 +137,15 @@ module _ {R S D O E : Type 0} (h : HashFunction) (rooms : Rooms R S D) (disks : 
     abbrev Left : Journaled → Type 0
     Left d = LeavesTiles (HasTilesOf h) (λ list body. ⊥) stored d TilesBefore Now TilesNow
 
-    abbrev works : Journaled → List Work
-    works d = journal_work (AreRecords h) name d
-        ∷ tiles_work (HasTilesOf h) (λ list body. ⊥) name beside d stored ∷ []
-
     abbrev All : Bool → Journaled → Type 0
-    All broken d = LeavesAll broken (works d) (all_states (program h rooms disks outs errs) old)
-        (all_states (program h rooms disks outs errs) run.room)
+    All broken d = AllAt h disks broken d (rooms.device old name) (rooms.device run.room name)
+        (rooms.device old beside) (rooms.device run.room beside)
 
     happens : Happens (AreRecords h) (event_with broken heard did) Before Now
     happens =
         (leaves h rooms disks outs errs crash_state only contents bytes name old run is_modelled
-        is_run (AreRecords h) keeps (none_beside h (command_of run.words) name own)).leads.happens
+        is_run (AreRecords h) keeps
+        (none_beside rooms.leads_to h (command_of run.words) name own)).leads.happens
 
     -- ---- a log, with the file of its tiles
 
@@ -188,11 +199,11 @@ module _ {R S D O E : Type 0} (h : HashFunction) (rooms : Rooms R S D) (disks : 
 
     -- ---- any other journal, or none
 
-    module _ (other : IsOther asked.besides beside) where
+    module _ (other : IsOther rooms.leads_to asked.besides beside) where
       still_tiles : NoNew TilesBefore TilesNow
       still_tiles c at = subst (λ (x : Option D). states_at disks x c)
-          (is_run.back.others beside (other_both asked.besides asked.journals beside other
-          (tiles_no_journal h run.words name))).disk at
+          (is_run.back.others beside (other_both rooms.leads_to asked.besides asked.journals beside
+          other (tiles_no_journal rooms.leads_to h run.words name))).disk at
 
       alone_left : (broken : Bool) (d : Journaled)
           → Continues (HasTilesOf h) Now TilesBefore TilesNow still_tiles d
@@ -216,9 +227,9 @@ module _ {R S D O E : Type 0} (h : HashFunction) (rooms : Rooms R S D) (disks : 
       cosigner_on (reads list) among = tt
       cosigner_on (appended list body) among = λ c at stands t there s made.
           elim (added_to h (rooms.file old) name list body (λ n b is. file_bytes disks
-          (rooms.file old n) (rooms.device old n) b bytes (contents old n is_modelled) is)
+          (rooms.file old n) (rooms.device old n) b bytes (contents.0 old n is_modelled) is)
           (command_of run.words) among) [
-            | inl named ↦ absurd (named_other asked.besides beside named other)
+            | inl named ↦ absurd (named_other rooms.leads_to asked.besides beside named other)
             | inr is ↦ absurd (no_cosigner_log h list body s is made)
           ]
       cosigner_on (started body) among = tt
@@ -231,28 +242,97 @@ module _ {R S D O E : Type 0} (h : HashFunction) (rooms : Rooms R S D) (disks : 
           let wrong : appended list body ≡ untouched = is in absurd cc
       untouched_on (started body) is = tt
 
-    pub log_leaves : All broken did
-    log_leaves = elim (find_name asked.journals (asked.outcome (rooms.file old)).journals name) [
-      | inl none ↦
-          (let other = tiles_other h (command_of run.words) name none.0 in
-          alone_left other broken did (untouched_on other did none.1) happens)
-      | inr among ↦ elim (named_or_other asked.besides beside) [
-        | inl named ↦ both_left broken did
-            (knows h rooms disks outs errs crash_state only contents bytes name old run is_modelled
-            is_run
-            (AreRecords h) keeps did among) happens
-            (of_each (λ n d. IsNamed asked.besides (tiles_name n)
-            → LeavesBoth (HasTilesOf h) asked.Valid rooms disks old run.room n d) js name did
-            (is_run.stores is_modelled) among named)
-        | inr other ↦
-            alone_left other broken did (cosigner_on other did among) happens
-      ]
+    -- it isn't about the journal
+    pub idle_leaves : IsOther rooms.leads_to asked.journals name → did ≡ untouched → All broken did
+    idle_leaves other is =
+        let apart = tiles_other rooms.leads_to h (command_of run.words) name other in
+        alone_left apart broken did (untouched_on apart did is) happens
+
+    -- it works on the journal of this name
+    pub named_leaves : AreAmong js name did → All broken did
+    named_leaves among = elim (tiles_named rooms.leads_to h (command_of run.words)
+        (asked.outcome (rooms.file old)).journals name did among) [
+          | inl named ↦ both_left broken did
+              (knows h rooms disks outs errs crash_state only contents bytes name old run
+              is_modelled is_run
+              (AreRecords h) keeps did among) happens
+              (of_each (λ n d. IsNamed asked.besides (tiles_name n)
+              → LeavesBoth (HasTilesOf h) asked.Valid rooms disks old run.room n d) js name did
+              (is_run.stores is_modelled) among named)
+          | inr other ↦ alone_left other broken did (cosigner_on other did among) happens
+        ]
+
+  module _ (name : Text) (own : IsOwn name) (old : R) (run : Run R O E)
+      (is_modelled : rooms.is_modelled old) (is_run : IsRun h rooms disks outs errs old run) where
+    abbrev names : List Text
+    names = (facts h (command_of run.words)).journals
+
+    abbrev dids : List Journaled
+    dids = ((facts h (command_of run.words)).outcome (rooms.file old)).journals
+
+    abbrev did_at : Text → Journaled
+    did_at n = done_to rooms.leads_to (done_with names dids) n
+
+    abbrev broke : Bool
+    broke = broke_off (program h rooms disks outs errs) run
+
+    abbrev Carries : Journaled → Text → Text → Text → Text → Type 0
+    Carries d n n' m m' = AllAt h disks broke d (rooms.device old n) (rooms.device run.room n')
+        (rooms.device old m) (rooms.device run.room m')
+
+    -- it works on the journal at the place of this name
+    carried : IsDoneAt rooms.leads_to (done_with names dids) name (did_at name)
+        → Carries (did_at name) name name (tiles_name name) (tiles_name name)
+    carried found =
+        let n = found.0 in
+        let same = found.1.0 in
+        let tiles = ends_alike rooms.leads_to (codes ".tiles") plain_end n name same in
+        let alike = done_alike rooms.leads_to (done_with names dids) n name same in
+        let later = is_run.back.is_modelled is_modelled in
+        let among = subst (λ (d : Journaled). AreAmong (done_with names dids) n d) (sym alike)
+        found.1.1 in
+        subst (λ (y : Option D). AllAt h disks broke (did_at name) (rooms.device old name)
+        (rooms.device run.room name) (rooms.device old (tiles_name name)) y)
+        (contents.1 run.room (tiles_name n) (tiles_name name) later tiles)
+        (subst (λ (y : Option D). AllAt h disks broke (did_at name) (rooms.device old name)
+        (rooms.device run.room name) y (rooms.device run.room (tiles_name n)))
+        (contents.1 old (tiles_name n) (tiles_name name) is_modelled tiles)
+        (subst (λ (x : Option D). AllAt h disks broke (did_at name) (rooms.device old name) x
+        (rooms.device old (tiles_name n)) (rooms.device run.room (tiles_name n)))
+        (contents.1 run.room n name later same)
+        (subst (λ (x : Option D). AllAt h disks broke (did_at name) x (rooms.device run.room n)
+        (rooms.device old (tiles_name n)) (rooms.device run.room (tiles_name n)))
+        (contents.1 old n name is_modelled same)
+        (subst (λ (d : Journaled). Carries d n n (tiles_name n) (tiles_name n)) alike
+        (named_leaves n (journal_own h run.words dids n (did_at n) among) old run is_modelled is_run
+        among)))))
+
+    pub log_leaves : Carries (did_at name) name name (tiles_name name) (tiles_name name)
+    log_leaves = elim (find_name rooms.leads_to names dids name) [
+      | inl none ↦ idle_leaves name own old run is_modelled is_run none.0 none.1
+      | inr found ↦ carried found
     ]
+
+    as_all : (broken : Bool) (d : Journaled) → AllAt h disks broken d (rooms.device old name)
+        (rooms.device run.room name) (rooms.device old (tiles_name name))
+        (rooms.device run.room (tiles_name name))
+        → LeavesAll broken (journal_work (AreRecords h) name d
+        ∷ tiles_work (HasTilesOf h) (λ list body. ⊥) name (tiles_name name) d stored ∷ [])
+        (all_states (program h rooms disks outs errs) old)
+        (all_states (program h rooms disks outs errs) run.room)
+    as_all false d is = is
+    as_all true d is = is
+
+    pub serves_so : LeavesAll broke (journal_work (AreRecords h) name (did_at name)
+        ∷ tiles_work (HasTilesOf h) (λ list body. ⊥) name (tiles_name name) (did_at name) stored
+        ∷ []) (all_states (program h rooms disks outs errs) old)
+        (all_states (program h rooms disks outs errs) run.room)
+    serves_so = as_all broke (did_at name) log_leaves
 
   -- runs leave of both files what they have to leave
   pub serves_log : (name : Text) → IsOwn name → ServesLog (program h rooms disks outs errs)
       (HasTilesOf h) (λ list body. ⊥) (AreRecords h) name (tiles_name name) (λ old is_run. stored)
   serves_log name own = record {
     rooms = (serves h rooms disks outs errs crash_state only contents bytes name own).rooms;
-    leaves = λ old run is_modelled is_run. log_leaves name own old run is_modelled is_run;
+    leaves = λ old run is_modelled is_run. serves_so name own old run is_modelled is_run;
   }

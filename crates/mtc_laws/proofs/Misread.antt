@@ -11,7 +11,6 @@ use Rattle.journal_core.specs.Format.{Represents}
 use Rattle.journal_core.proofs.Found.{read_standing}
 use Rattle.journal_core.proofs.Standing.{found_stands}
 use Rattle.mtc_io.specs.declared.sink.Sink.{Ghosts as Sinks}
-use Rattle.mtc_room.specs.Room.{ModelsFile}
 use Rattle.mtc_room.specs.declared.room.Room.{Ghosts as Rooms}
 use Rattle.mtc_words.specs.Commands.{CommandValue}
 use Rattle.mtc_words.specs.Words.{command_of, known_word}
@@ -32,7 +31,8 @@ use Rattle.command_plans.specs.Plans.{Journal, makes, opens}
 use Rattle.command_plans.specs.Rules.{AreOfFirst, AreOfKind}
 use Rattle.command_plans.proofs.Facts.{misread_about}
 use Rattle.mtc_plans.specs.Commands.{plan_of}
-use Rattle.mtc_plans.specs.PartyKinds.{PartyKind, cosigner, log, missing_text, party_fold}
+use Rattle.mtc_plans.specs.PartyKinds.{PartyKind, cosigner, log, rebuilt_log, missing_text}
+use Rattle.mtc_plans.specs.PartyKinds.{party_fold}
 use Rattle.mtc_plans.specs.PartyKinds.{party_kinds}
 use Rattle.party_history.specs.Rules.{IsReadAs}
 use Rattle.party_history.specs.declared.start.PartyStart.{PartyStart}
@@ -48,6 +48,7 @@ use Rattle.mtc_top.proofs.Runs.{answered, wrote_of}
 use Rattle.mtc_laws.proofs.HeardRuns.{file_bytes}
 use Rattle.mtc_top.specs.Executions.{program, Run}
 use Rattle.mtc_laws.proofs.Aliases.{IsRun}
+use Rattle.mtc_laws.proofs.Aliases.{ModelsFiles}
 
 one_is : (x y : List ℕ) (xs : List (List ℕ)) → x ∷ xs ≡ y ∷ [] → x ≡ y
 one_is x y xs is = cc
@@ -108,6 +109,7 @@ module _ (h : HashFunction) (start : PartyStart) (first name : List ℕ) (files 
         named = sym named;
         says = tile.1.1;
       }
+  of_tiles rebuilt_log file reason wants = no_some reason wants.lacks
   of_tiles cosigner file reason wants = no_some file wants.beside
 
   of_kind : (kind : PartyKind) (file reason : List ℕ) → KeepTo (AreOfKind (party_kinds h) kind)
@@ -144,8 +146,7 @@ stands_of h (Cosigner settings public) c list are read =
 
 module _ {R S D O E : Type 0} (h : HashFunction) (rooms : Rooms R S D) (disks : Disks D)
     (outs : Sinks O) (errs : Sinks E) (crash_state : ReadsCrashState disks) (only : OnlyNow disks)
-    (contents : (room : R) (name : List ℕ) → rooms.is_modelled room
-    → ModelsFile disks.contents (rooms.file room name) (rooms.device room name))
+    (contents : ModelsFiles rooms disks)
     (bytes : (d : D) (b : List ℕ) → disks.contents d ≡ Some b → IsBytes b) where
   -- the line of a refusal
   refused_line : (run : Run R O E) (reply : Reply) (file reason : List ℕ)
@@ -199,6 +200,6 @@ module _ {R S D O E : Type 0} (h : HashFunction) (rooms : Rooms R S D) (disks : 
       read_again h rooms disks outs errs crash_state only contents bytes name start first begins
       new events begun execution c (inr is) in
       let are = file_bytes disks (rooms.file new name) (rooms.device new name) c bytes
-      (contents new name is_modelled) is in
+      (contents.0 new name is_modelled) is in
       (party.records, (stands_of h start c party.records are party.read, party.of_party)))
       (plan_of h command).journals file reason on.works on.kind any)

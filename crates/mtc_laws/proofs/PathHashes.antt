@@ -95,9 +95,9 @@ module _ (h : HashFunction) (sized : (bytes : Text) → length (h bytes) ≡ 32)
       (path_is depth (e - 1) (m - k) (drop k leaves) back (all_drop IsHash k leaves all))
       (root_of_is (take k leaves) (all_take IsHash k leaves all))))
 
-  pub path_hashes : (m : ℕ) (leaves : List Hash) → length leaves ≤ 2 ^ 20
+  pub path_hashes : (m : ℕ) (leaves : List Hash) → length leaves ≤ 2 ^ 24
       → AllByRecursion IsHash leaves → AreHashes (path_of h m leaves)
   unfolding path_of
   path_hashes m leaves few all =
-      let is = path_is (length leaves) 20 m leaves few all in
+      let is = path_is (length leaves) 24 m leaves few all in
       (is.0, omega (arith, is.1))

@@ -1,10 +1,10 @@
 -- What follows from the text of `certs` and of `light-certs`, by their plans; and of several
 -- certificates that nothing refuses.
 use Rattle.std.proofs.Common.{◌≡◌, ℕ, zero, suc, ◌+◌, ◌-◌, ◌<◌, ◌≤◌, nat_le, Bool, true, false}
-use Rattle.std.proofs.Common.{List, [], ◌∷◌, Option, None, Some, Ok, refl, sym, ap, subst, ◌∙◌}
+use Rattle.std.proofs.Common.{List, Option, None, Some, Ok, refl, sym, ap, subst, ◌∙◌}
 use Rattle.std.proofs.Common.{arith, if◌then◌else◌}
 use Rattle.std.proofs.lemmas.Bool.{leb-false}
-use Rattle.byte_formats.specs.Types.{HashFunction, Text}
+use Rattle.byte_formats.specs.Types.{HashFunction}
 use Rattle.mtc_proof.specs.Reasons.{proof_fault_text}
 use Rattle.issuance_log.specs.Folds.{LogView, view_in}
 use Rattle.authority_core.specs.Certificates.{cert_refusal, light_refusal}
@@ -30,9 +30,9 @@ use Rattle.command_plans.proofs.Facts.{heard_passed, not_refused}
 use Rattle.mtc_plans.specs.Commands.{planned_outcome}
 use Rattle.mtc_plans.specs.Heard.{HoldsSmall, OfSaid}
 use Rattle.mtc_plans.specs.LogPlans.{certs_plan, work_plan, work_step}
-use Rattle.mtc_plans.specs.LogWork.{certs_judged, several_judged, work_reported}
+use Rattle.mtc_plans.specs.LogWork.{several_judged, work_reported}
 use Rattle.mtc_plans.specs.PartyKinds.{party_kinds}
-use Rattle.mtc_plans.specs.Steps.{deed_on}
+use Rattle.mtc_plans.specs.Steps.{deed_on, prints_unless}
 use Rattle.mtc_plans.proofs.Heard.{form_passed, same_work}
 use Rattle.mtc_laws.proofs.CertTexts.{WritesSo}
 
@@ -45,7 +45,7 @@ never_several (several.OfEntry write_error.TooManySignatures index) status text 
 never_several why status text is = not_refused status text _ _ _ is
 
 several_so : (why : Option SeveralError) (wanted : List ℕ) (status : Said) (text : List ℕ)
-    → Meets (wanted_of (certs_judged why wanted)) (said status text)
+    → Meets (wanted_of (prints_unless several_judged why wanted)) (said status text)
     → (why ≡ None) × (said status text ≡ said Done wanted)
 several_so None wanted status text is = (refl, is)
 several_so (Some why) wanted status text is = absurd (never_several why status text is)

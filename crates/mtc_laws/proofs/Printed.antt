@@ -1,7 +1,6 @@
 -- What goes out of a run by a command, by what its text says.
 use Rattle.std.proofs.Common.{◌≡◌, inl, ℕ, false, List, [], ◌∷◌, length, Result, Ok, refl, sym}
 use Rattle.std.proofs.Common.{Some, Bool, if◌then◌else◌, subst, ap, ◌∙◌}
-use Rattle.std.proofs.lemmas.Slice.Eq.{bytes_eq-Decides}
 use Rattle.byte_formats.specs.Offsets.{IsBytes}
 use Rattle.byte_formats.specs.Types.{HashFunction}
 use Rattle.disk_core.specs.declared.disk.Disk.{Ghosts as Disks}
@@ -9,7 +8,6 @@ use Rattle.journal_core.specs.Format.{end_offset}
 use Rattle.journal_core.proofs.Standing.{found_stands}
 use Rattle.file_events.specs.Worlds.{done_to}
 use Rattle.mtc_io.specs.declared.sink.Sink.{Ghosts as Sinks}
-use Rattle.mtc_room.specs.Room.{ModelsFile}
 use Rattle.mtc_room.specs.declared.room.Room.{Ghosts as Rooms}
 use Rattle.mtc_words.specs.Commands.{CommandValue, cosign, issue, switch}
 use Rattle.mtc_words.specs.Words.{command_of}
@@ -33,14 +31,16 @@ use Rattle.mtc_authority.specs.SwitchOutcome.{switched_line}
 use Rattle.mtc_plans.specs.Commands.{planned_outcome}
 use Rattle.mtc_plans.specs.Heard.{CosignsSo, IssuesSo, OfSaid, SwitchesSo}
 use Rattle.mtc_plans.proofs.Heard.{cosigned_so, issued_so, switched_so}
-use Rattle.party_history.proofs.Cosigners.{number_added, sign_read}
+use Rattle.party_history.proofs.Cosigners.{sign_read}
 use Rattle.party_history.proofs.Entries.{item_read}
 use Rattle.mtc_top.specs.Facts.{facts, facts_of}
 use Rattle.mtc_laws.specs.PrintLaws.{IndicesArePrinted, SignaturesArePrinted, SwitchesArePrinted}
 use Rattle.mtc_laws.proofs.HeardRuns.{file_bytes, heard_run, not_refused, printed_so}
 use Rattle.mtc_laws.proofs.Streams.{plain_command}
+use Rattle.mtc_room.proofs.Places.{one_place_of}
 use Rattle.mtc_top.specs.Executions.{program, Run}
 use Rattle.mtc_laws.proofs.Aliases.{IsRun, DidWith, IsHeard}
+use Rattle.mtc_laws.proofs.Aliases.{ModelsFiles}
 
 module _ {R S D O E : Type 0} (h : HashFunction) (rooms : Rooms R S D) (disks : Disks D)
     (outs : Sinks O) (errs : Sinks E) (old : R) (run : Run R O E) (command : CommandValue)
@@ -56,8 +56,8 @@ module _ {R S D O E : Type 0} (h : HashFunction) (rooms : Rooms R S D) (disks : 
       done_with (facts h r).journals ((facts h r).outcome (rooms.file old)).journals) spoken
       ∙ (ap (λ (names : List (List ℕ)). done_with names planned.journals) named
       ∙ ap (λ (dids : List Journaled). done_with (name ∷ []) dids) is) in
-      subst (λ (js : Journals). done_to js name ≡ did) (sym are)
-      (ap (λ (b : Bool). if b then did else untouched) ((bytes_eq-Decides name name).1 refl))
+      subst (λ (js : Journals). done_to rooms.leads_to js name ≡ did) (sym are)
+      (ap (λ (b : Bool). if b then did else untouched) (one_place_of rooms.leads_to name name refl))
 
   module _ (is_modelled : rooms.is_modelled old)
       (is_run : IsRun h rooms disks outs errs old run) (heard : IsHeard outs run) where
@@ -83,8 +83,7 @@ module _ {R S D O E : Type 0} (h : HashFunction) (rooms : Rooms R S D) (disks : 
 
 module _ {R S D O E : Type 0} (h : HashFunction) (rooms : Rooms R S D) (disks : Disks D)
     (outs : Sinks O) (errs : Sinks E)
-    (contents : (room : R) (name : List ℕ) → rooms.is_modelled room
-    → ModelsFile disks.contents (rooms.file room name) (rooms.device room name))
+    (contents : ModelsFiles rooms disks)
     (bytes : (d : D) (b : List ℕ) → disks.contents d ≡ Some b → IsBytes b) where
   pub signatures_printed : SignaturesArePrinted h (program h rooms disks outs errs)
   signatures_printed name file old run is_modelled is_run spoken heard =
@@ -95,10 +94,10 @@ module _ {R S D O E : Type 0} (h : HashFunction) (rooms : Rooms R S D) (disks : 
       let state = s.found.state in
       let list = s.found.records in
       let are = file_bytes disks (rooms.file old name) (rooms.device old name) s.held bytes
-      (contents old name is_modelled) s.there in
+      (contents.0 old name is_modelled) s.there in
       let stands = found_stands (cosigner_fold h) s.held s.found are s.is_cosigner in
       let asked = file_bytes disks (rooms.file old file) (rooms.device old file) s.bytes bytes
-      (contents old file is_modelled) s.has_bytes.there in
+      (contents.0 old file is_modelled) s.has_bytes.there in
       let body = sign_record state.key.next r.start r.end r.hash r.proof in
       let signs = sign_read h state r false (end_offset list) (few_keys h list state stands.1)
       (subtree_only s.bytes r asked s.asked).1 s.fits in
@@ -113,8 +112,6 @@ module _ {R S D O E : Type 0} (h : HashFunction) (rooms : Rooms R S D) (disks : 
         body = body;
         did = did_so h rooms disks outs errs old run command spoken name (appended list body) refl
             s.did;
-        uses = number_added h list state body state.key.next r.start r.end r.hash r.proof stands.1
-            signs;
         signs = signs;
         printed = printed_so h rooms disks outs errs old run is_run heard
             (plain_command h command spoken refl) (cosigned_text state r)
@@ -129,7 +126,7 @@ module _ {R S D O E : Type 0} (h : HashFunction) (rooms : Rooms R S D) (disks : 
       let state = s.found.state in
       let list = s.found.records in
       let are = file_bytes disks (rooms.file old name) (rooms.device old name) s.held bytes
-      (contents old name is_modelled) s.there in
+      (contents.0 old name is_modelled) s.there in
       let body = issued_record h (view_in state) s.request in
       record {
         text = s.bytes;
@@ -157,7 +154,7 @@ module _ {R S D O E : Type 0} (h : HashFunction) (rooms : Rooms R S D) (disks : 
       let state = s.found.state in
       let list = s.found.records in
       let are = file_bytes disks (rooms.file old name) (rooms.device old name) s.held bytes
-      (contents old name is_modelled) s.there in
+      (contents.0 old name is_modelled) s.there in
       record {
         list = list;
         state = state;

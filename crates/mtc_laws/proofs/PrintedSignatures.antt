@@ -12,7 +12,6 @@ use Rattle.byte_formats.specs.Types.{Hash, HashFunction, Text}
 use Rattle.byte_formats.proofs.Steps.{ok_is}
 use Rattle.disk_core.specs.declared.disk.Disk.{Ghosts as Disks}
 use Rattle.mtc_io.specs.declared.sink.Sink.{Ghosts as Sinks}
-use Rattle.mtc_room.specs.Room.{ModelsFile}
 use Rattle.mtc_room.specs.declared.room.Room.{Ghosts as Rooms}
 use Rattle.file_events.specs.Events.{FirstHolds}
 use Rattle.file_events.specs.Worlds.{EachRun, FileEvent, FileOwner, IsFileExecution, Program}
@@ -37,6 +36,7 @@ use Rattle.mtc_laws.proofs.HeardBytes.{done_heard}
 use Rattle.mtc_laws.specs.AcceptanceLaws.{HasCosignedAt, HaveCosigned}
 use Rattle.mtc_laws.specs.CountLaws.{signature_of}
 use Rattle.mtc_laws.proofs.Counted.{signatures_count}
+use Rattle.mtc_laws.proofs.Aliases.{ModelsFiles}
 
 -- ---- rules that are met
 
@@ -145,8 +145,7 @@ module _ (p : Program) where
 
 module _ {R S D O E : Type 0} (h : HashFunction) (rooms : Rooms R S D) (disks : Disks D)
     (outs : Sinks O) (errs : Sinks E) (crash_state : ReadsCrashState disks) (only : OnlyNow disks)
-    (contents : (room : R) (name : List ℕ) → rooms.is_modelled room
-    → ModelsFile disks.contents (rooms.file room name) (rooms.device room name))
+    (contents : ModelsFiles rooms disks)
     (bytes : (d : D) (b : List ℕ) → disks.contents d ≡ Some b → IsBytes b) (store : Store)
     (start end : ℕ) (hash : Hash) (list : List SigParts) (proof : ProofParts)
     (start_is : proof.start ≡ start) (end_is : proof.end ≡ end)

@@ -5,7 +5,6 @@ use Rattle.byte_formats.specs.Types.{HashFunction}
 use Rattle.file_events.specs.Executions.{IsPrefix}
 use Rattle.disk_core.specs.declared.disk.Disk.{Ghosts as Disks}
 use Rattle.mtc_io.specs.declared.sink.Sink.{Ghosts as Sinks}
-use Rattle.mtc_room.specs.Room.{ModelsFile}
 use Rattle.mtc_room.specs.declared.room.Room.{Ghosts as Rooms}
 use Rattle.mtc_words.specs.Commands.{cosign, issue, switch}
 use Rattle.issuance_log.specs.Folds.{log_of, view_in}
@@ -19,12 +18,12 @@ use Rattle.mtc_laws.proofs.Printed.{indices_printed, signatures_printed, switche
 use Rattle.mtc_laws.proofs.Recovered.{added_stand, each_held, held_prefix, crash_state_list}
 use Rattle.mtc_laws.proofs.Recovered.{log_recovered}
 use Rattle.mtc_laws.proofs.HeardRuns.{heard_held}
+use Rattle.mtc_laws.proofs.Aliases.{ModelsFiles}
 use Rattle.mtc_top.specs.Executions.{program, WasHeld}
 
 module _ {R S D O E : Type 0} (h : HashFunction) (rooms : Rooms R S D) (disks : Disks D)
     (outs : Sinks O) (errs : Sinks E) (crash_state : ReadsCrashState disks) (only : OnlyNow disks)
-    (contents : (room : R) (name : List ℕ) → rooms.is_modelled room
-    → ModelsFile disks.contents (rooms.file room name) (rooms.device room name))
+    (contents : ModelsFiles rooms disks)
     (bytes : (d : D) (b : List ℕ) → disks.contents d ≡ Some b → IsBytes b) where
   pub signatures_stand : SignaturesStand h (program h rooms disks outs errs)
   signatures_stand name start first begins new events begun execution file c at =

@@ -9,7 +9,6 @@ use Rattle.file_events.proofs.Records.{one_list}
 use Rattle.journal_core.specs.Format.{Represents}
 use Rattle.journal_core.proofs.Standing.{found_stands}
 use Rattle.mtc_io.specs.declared.sink.Sink.{Ghosts as Sinks}
-use Rattle.mtc_room.specs.Room.{ModelsFile}
 use Rattle.mtc_room.specs.declared.room.Room.{Ghosts as Rooms}
 use Rattle.mtc_words.specs.Commands.{export}
 use Rattle.cosigner_core.specs.ExportReading.{export_in, export_of}
@@ -28,6 +27,7 @@ use Rattle.mtc_laws.proofs.Exports.{step_there}
 use Rattle.mtc_laws.proofs.Printed.{heard_so}
 use Rattle.mtc_laws.proofs.HeardBytes.{done_heard}
 use Rattle.mtc_laws.proofs.HeardRuns.{file_bytes, streamed_so}
+use Rattle.mtc_laws.proofs.Aliases.{ModelsFiles}
 use Rattle.mtc_top.specs.Executions.{program}
 use Rattle.mtc_laws.specs.RecordedTwice.{HasRecordedTwice, RecordedSignaturesCollide}
 use Rattle.mtc_laws.specs.RecordedTwice.{SignIsRecorded}
@@ -42,8 +42,7 @@ sign_there list steps start end hash are s =
 
 module _ {R S D O E : Type 0} (h : HashFunction) (rooms : Rooms R S D) (disks : Disks D)
     (outs : Sinks O) (errs : Sinks E)
-    (contents : (room : R) (name : List ℕ) → rooms.is_modelled room
-    → ModelsFile disks.contents (rooms.file room name) (rooms.device room name))
+    (contents : ModelsFiles rooms disks)
     (bytes : (d : D) (b : List ℕ) → disks.contents d ≡ Some b → IsBytes b) where
   recorded_conflict : (kept_text : List ℕ)
       → HasRecordedTwice h (program h rooms disks outs errs) kept_text → IsInConflict h kept_text
@@ -55,7 +54,7 @@ module _ {R S D O E : Type 0} (h : HashFunction) (rooms : Rooms R S D) (disks : 
       by.has_run heard (ExportsSo h (rooms.file old) by.name)
       (exported_so h (rooms.file old) by.name) in
       let are = file_bytes disks (rooms.file old by.name) (rooms.device old by.name) s.held bytes
-      (contents old by.name by.is_modelled) s.there in
+      (contents.0 old by.name by.is_modelled) s.there in
       let stands = found_stands (cosigner_fold h) s.held s.found are s.is_cosigner in
       let again = export_again h s.held s.found.records s.found.state are stands.0 stands.1 in
       let file : s.held ≡ by.bytes = same_Some s.held by.bytes (sym s.there ∙ by.there) in

@@ -1,6 +1,6 @@
 -- What may be recovered of a party's journal after an execution, and its history.
 use Rattle.std.proofs.Common.{◌≡◌, ◌⊎◌, inl, inr, ℕ, true, List, [], ◌∷◌, ◌++◌, Option, None, Some}
-use Rattle.std.proofs.Common.{Result, Ok, refl, sym, subst, ap, ◌∙◌, append_assoc}
+use Rattle.std.proofs.Common.{Result, Ok, refl, sym, subst, ap, ◌∙◌}
 use Rattle.std.specs.Prelude.{IsOk, is_ok}
 use Rattle.byte_formats.specs.Offsets.{IsBytes}
 use Rattle.byte_formats.specs.Types.{HashFunction}
@@ -17,15 +17,11 @@ use Rattle.file_events.proofs.Records.{one_list}
 use Rattle.file_events.proofs.Stays.{first_held, held_stand, recovered_valid}
 use Rattle.file_events.proofs.Stays.{released_held as was_held}
 use Rattle.file_events.specs.Worlds.{states_of}
-use Rattle.file_events.proofs.Uses.{head_is}
+use Rattle.file_events.proofs.Uses.{head_is, whole_of}
 use Rattle.journal_core.specs.Format.{Represents}
 use Rattle.mtc_io.specs.declared.sink.Sink.{Ghosts as Sinks}
-use Rattle.mtc_room.specs.Room.{ModelsFile}
 use Rattle.mtc_room.specs.declared.room.Room.{Ghosts as Rooms}
 use Rattle.mtc_words.specs.Words.{command_of}
-use Rattle.cosigner_core.specs.Counts.{AreCounted}
-use Rattle.cosigner_core.specs.declared.settings.CosignerSettings.{CosignerSettings}
-use Rattle.cosigner_core.proofs.After.{once_each}
 use Rattle.issuance_log.specs.Folds.{LogState, log_of}
 use Rattle.issuance_log.specs.Settings.{Settings}
 use Rattle.issuance_log.proofs.After.{begins_so}
@@ -34,7 +30,7 @@ use Rattle.party_history.specs.Journals.{Continues, HasHistory}
 use Rattle.party_history.specs.Rules.{AreRecords, StartsWith, may_follow}
 use Rattle.party_history.specs.declared.start.PartyStart.{PartyStart}
 use Rattle.party_history.specs.declared.start.PartyStart.TheVariants.{Log, Cosigner}
-use Rattle.party_history.proofs.Agreement.{agree, made_so, read, starts_so}
+use Rattle.party_history.proofs.Agreement.{agree, keys_of_valid, made_so, read, starts_so}
 use Rattle.party_history.proofs.Items.{item_added, items_kept}
 use Rattle.party_history.proofs.Keys.{one_record}
 use Rattle.party_history.proofs.Taking.{no_records, reaches_all, takes_steps}
@@ -52,17 +48,9 @@ use Rattle.mtc_top.specs.Executions.{program, WasHeld, IsBegun, IsReached, Run, 
 use Rattle.mtc_laws.proofs.Aliases.{IsRun, DidWith, owner_of, crash_states_in, IsOwnExecution}
 use Rattle.mtc_laws.proofs.Aliases.{journal_events}
 use Rattle.mtc_laws.proofs.Aliases.{HasHeld, EachOwnRun, IsRecovered, IsHeard}
+use Rattle.mtc_laws.proofs.Aliases.{ModelsFiles}
 
 -- ---- lists
-
--- a prefix up to a record of a prefix
-first_of_more : (list : List (List ℕ)) (body : List ℕ) (more found : List (List ℕ))
-    → IsPrefix (list ++ body ∷ more) found → IsPrefix (list ++ body ∷ []) found
-first_of_more list body more found prefix = (
-  more ++ prefix.0,
-  append_assoc list (body ∷ []) (more ++ prefix.0)
-      ∙ (sym (append_assoc list (body ∷ more) prefix.0) ∙ prefix.1),
-)
 
 -- bytes that represent durable records and a pending one begin with the first of them
 first_is : (first other c : List ℕ) (others durable list : List (List ℕ))
@@ -87,20 +75,12 @@ log_found h (Log settings') settings first list is begins of =
     ∙ of.valid))
 log_found h (Cosigner settings' public) settings first list is begins of = absurd cc
 
-keys_of : (h : HashFunction) (start : PartyStart) (settings : CosignerSettings)
-    (public : List ℕ) (bodies : List (List ℕ)) → start ≡ Cosigner settings public
-    → may_follow h start bodies ≡ true → AreCounted bodies
-keys_of h start settings public bodies is valid =
-    once_each h settings bodies
-    (subst (λ (s : PartyStart). may_follow h s bodies ≡ true) is valid)
-
 tail_is : (x y : List ℕ) (xs ys : List (List ℕ)) → x ∷ xs ≡ y ∷ ys → xs ≡ ys
 tail_is x y xs ys is = cc
 
 module _ {R S D O E : Type 0} (h : HashFunction) (rooms : Rooms R S D) (disks : Disks D)
     (outs : Sinks O) (errs : Sinks E) (crash_state : ReadsCrashState disks) (only : OnlyNow disks)
-    (contents : (room : R) (name : List ℕ) → rooms.is_modelled room
-    → ModelsFile disks.contents (rooms.file room name) (rooms.device room name))
+    (contents : ModelsFiles rooms disks)
     (bytes : (d : D) (b : List ℕ) → disks.contents d ≡ Some b → IsBytes b) where
   module _ (name : List ℕ) (start : PartyStart) (first : List ℕ) (begins new : R)
       (events : List (FileEvent R O E))
@@ -156,7 +136,7 @@ module _ {R S D O E : Type 0} (h : HashFunction) (rooms : Rooms R S D) (disks : 
           | inl left ↦ left
           | inr there ↦ contents_crash_state disks (rooms.device new name) c crash_state
               (modelled_file disks (rooms.file new name) (rooms.device new name)
-              (contents new name modelled_then) ∙ there)
+              (contents.0 new name modelled_then) ∙ there)
         ]) in
         let of = party c b in
         record {
@@ -285,28 +265,33 @@ module _ {R S D O E : Type 0} (h : HashFunction) (rooms : Rooms R S D) (disks : 
       found =
       let of = party_list name start first begins new events begun execution (record0 ∷ bodies)
       found in
-      keys_of h start settings public bodies is
+      (keys_of_valid h start settings public bodies is
       (subst (λ (l : List (List ℕ)). may_follow h start l ≡ true)
-      (sym (tail_is record0 first bodies of.others of.is)) of.valid)
+      (sym (tail_is record0 first bodies of.others of.is)) of.valid)).counted
 
   pub one_message : KeysSignOneMessage h (program h rooms disks outs errs)
   one_message name start first begins new events begun execution settings public is list other more
-      others body message number held held' uses uses' =
+      others body message one two held held' says says' same =
       let all = durable name start first begins new events begun execution in
       let c = all.some in
       let following = all.each c.0 c.1 in
       let found = begun.others ++ following.begins.0 in
       let recovered : IsRecovered h rooms disks outs errs name new (first ∷ found)
       = (c.0, (c.1, subst (Represents c.0) (sym following.begins.1) following.stands)) in
-      let prefix = first_of_more list body more (first ∷ found) (held_prefix name start first
-      begins new events begun execution (list ++ body ∷ more) (first ∷ found) held recovered) in
-      let prefix' =
-      first_of_more other message others (first ∷ found) (held_prefix name start first
-      begins new events begun execution (other ++ message ∷ others) (first ∷ found) held' recovered)
-      in
-      one_record first found list other body message prefix.0 prefix'.0 number
-      (keys_once name start first begins new events begun execution settings public is first found
-      recovered) prefix.1 prefix'.1 uses uses'
+      let prefix = held_prefix name start first begins new events begun execution
+      (list ++ body ∷ more) (first ∷ found) held recovered in
+      let prefix' = held_prefix name start first begins new events begun execution
+      (other ++ message ∷ others) (first ∷ found) held' recovered in
+      let starts = subst (λ (s : PartyStart). StartsWith s first) is begun.starts in
+      let of = party_list name start first begins new events begun execution (first ∷ found)
+      recovered in
+      one_record settings first starts.0 found list other body message (more ++ prefix.0)
+      (others ++ prefix'.0) one two starts.1.0
+      (keys_of_valid h start settings public found is
+      (subst (λ (l : List (List ℕ)). may_follow h start l ≡ true)
+      (sym (tail_is first first found of.others of.is)) of.valid))
+      (whole_of list body more prefix.0 (first ∷ found) prefix.1)
+      (whole_of other message others prefix'.0 (first ∷ found) prefix'.1) says says' same
 
   -- the log with which the journal may be recovered
   pub log_recovered : (name : List ℕ) (start : PartyStart) (first : List ℕ) (begins new : R)

@@ -1,19 +1,19 @@
 -- What a text says that is a list of requests: there are some, and each can be issued. It should
 -- stand in authority_core.
 use Rattle.std.proofs.Common.{◌≡◌, ℕ, zero, suc, ◌+◌, ◌≤◌, List, [], ◌∷◌, length, slice_get, Option}
-use Rattle.std.proofs.Common.{None, Some, Result, Ok, Err, refl, subst, codes, arith}
+use Rattle.std.proofs.Common.{None, Some, Ok, Err, refl, subst, codes, arith}
 use Rattle.std.proofs.lemmas.Option.{same_Some}
 use Rattle.byte_formats.specs.Offsets.{IsBytes}
 use Rattle.byte_formats.specs.Types.{Text}
 use Rattle.byte_formats.proofs.Steps.{bind_ok, lifted_ok, ok_is, pass_ok, some_or_ok}
 use Rattle.byte_formats.proofs.Values.{then_some}
-use Rattle.toml.specs.Data.{Data, Members, as_array, get_member}
+use Rattle.toml.specs.Data.{Data, Members, get_member}
 use Rattle.toml_fields.specs.Fields.{required_field}
 use Rattle.toml_fields.specs.Tree.{has_only, tree_of}
 use Rattle.authority_core.specs.Files.{request_of_tree}
 use Rattle.authority_core.specs.RequestLists.{numbered_request, request_list_keys, requests_from}
 use Rattle.authority_core.specs.RequestLists.{requests_in, requests_of, requests_of_tree}
-use Rattle.authority_core.specs.RequestLists.{some_tables, tables_data, tables_in}
+use Rattle.authority_core.specs.RequestLists.{some_tables, tables_data}
 use Rattle.authority_core.specs.Requests.{CanBeIssued, RequestParts}
 use Rattle.authority_core.specs.declared.requests.error.RequestError.{RequestError}
 use Rattle.authority_core.specs.declared.requests.error.RequestListError.{RequestListError}

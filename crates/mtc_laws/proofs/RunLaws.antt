@@ -17,7 +17,6 @@ use Rattle.file_events.specs.Owners.{did_to}
 use Rattle.mtc_io.specs.Counts.{Rose}
 use Rattle.mtc_io.specs.Streams.{AppendsPrefix}
 use Rattle.mtc_io.specs.declared.sink.Sink.{Ghosts as Sinks}
-use Rattle.mtc_room.specs.Room.{ModelsFile}
 use Rattle.mtc_room.specs.declared.room.Room.{Ghosts as Rooms}
 use Rattle.mtc_command.specs.Answers.{Ending, Reply, replied, room_failed, no_memory, said}
 use Rattle.mtc_command.specs.Answers.{refused, status_of, out_of}
@@ -39,15 +38,18 @@ use Rattle.mtc_laws.specs.RunLaws.{TookSome, AreAmong}
 use Rattle.mtc_laws.proofs.Beside.{journal_own, none_beside}
 use Rattle.mtc_laws.proofs.Commands.{spoken_records}
 use Rattle.mtc_laws.proofs.HeardBytes.{breaks_known, prefix_some, took_none, unheard}
+use Rattle.mtc_laws.proofs.Leaves.{IsDoneAt}
 use Rattle.mtc_laws.proofs.Leaves.{contents_crash_state, find_name, leaves, modelled_file, of_each}
 use Rattle.mtc_laws.proofs.Leaves.{still}
-use Rattle.mtc_laws.proofs.Streams.{adds_none, early_reply, is_command, makes_none}
+use Rattle.mtc_authority.specs.StoredTiles.{MakesTilesWhole}
+use Rattle.mtc_laws.proofs.Streams.{adds_none, early_reply, is_command, makes_none, whole_none}
 use Rattle.mtc_top.proofs.Runs.{HasEnded, HasFailed, RanOutOfMemory, WasCutOff, all_early}
 use Rattle.mtc_top.proofs.Runs.{answered, cut_breaks, cut_prefix, ended, first_words}
 use Rattle.mtc_top.proofs.Runs.{lost_of, not5_of, not8_of, only_words, prefix_of, reply_code}
 use Rattle.mtc_top.proofs.Runs.{wrote_of}
 use Rattle.mtc_top.specs.Executions.{program, Run}
 use Rattle.mtc_laws.proofs.Aliases.{IsRun, owner_of, crash_states_in}
+use Rattle.mtc_laws.proofs.Aliases.{ModelsFiles}
 
 -- a prefix of a prefix
 take_both : (j k : ℕ) (l : List ℕ) → (n : ℕ) × (take j (take k l) ≡ take n l)
@@ -241,6 +243,9 @@ module _ {R S D O E : Type 0} (h : List ℕ → List ℕ) (rooms : Rooms R S D) 
             began = subst (λ (o : Option (List ℕ)). IfSome o (λ name.
                 ModelsNew rooms disks name old new (replied reply)))
                 (sym (makes_none h (command_of words) cut.streams)) tt;
+            whole = subst (λ (o : Option (List ℕ)). IfSome o (λ name.
+                MakesTilesWhole h rooms disks old new name (replied reply)))
+                (sym (whole_none h (command_of words) cut.streams)) tt;
             only_read = is_run.only_read;
             spares = is_run.spares;
             stores = is_run.stores;
@@ -256,6 +261,7 @@ module _ {R S D O E : Type 0} (h : List ℕ → List ℕ) (rooms : Rooms R S D) 
           back = is_run.back;
           made = is_run.made;
           began = is_run.began;
+          whole = is_run.whole;
           only_read = is_run.only_read;
           spares = is_run.spares;
           stores = is_run.stores;
@@ -275,8 +281,7 @@ prefixes_are_runs {R} {S} {D} {O} {E} h rooms disks outs errs words old new out 
 
 module _ {R S D O E : Type 0} (h : HashFunction) (rooms : Rooms R S D) (disks : Disks D)
     (outs : Sinks O) (errs : Sinks E) (crash_state : ReadsCrashState disks) (only : OnlyNow disks)
-    (contents : (room : R) (name : List ℕ) → rooms.is_modelled room
-    → ModelsFile disks.contents (rooms.file room name) (rooms.device room name))
+    (contents : ModelsFiles rooms disks)
     (bytes : (d : D) (b : List ℕ) → disks.contents d ≡ Some b → IsBytes b) where
   all_go_on : (event : Event) (before now : CrashStates) → Leads (AreRecords h) event before now
       → AllGoOn h event before now
@@ -293,43 +298,53 @@ module _ {R S D O E : Type 0} (h : HashFunction) (rooms : Rooms R S D) (disks : 
     js = (program h rooms disks outs errs).journals old run
 
     not_beside : ((did : Journaled) × AreAmong js name did)
-        ⊎ IsOther asked.besides name → IsOther asked.besides name
+        ⊎ IsOther rooms.leads_to asked.besides name → IsOther rooms.leads_to asked.besides name
     not_beside named = elim named [
-      | inl did ↦ none_beside h (command_of run.words) name (journal_own h run.words
+      | inl did ↦ none_beside rooms.leads_to h (command_of run.words) name (journal_own h run.words
           (asked.outcome (rooms.file old)).journals name did.0 did.1)
       | inr other ↦ other
     ]
 
     -- the clock of the device doesn't go back
-    later : IsOther asked.besides name
+    later : IsOther rooms.leads_to asked.besides name
         → clock_of disks (rooms.device old name) ≤ clock_of disks (rooms.device run.room name)
-    later beside = elim (find_name asked.journals (asked.outcome (rooms.file old)).journals name) [
-      | inl none ↦ subst (λ (x : Option D). clock_of disks (rooms.device old name)
-          ≤ clock_of disks x)
-          (sym (still h rooms disks outs errs crash_state only contents bytes name old
-          run is_modelled is_run (AreRecords h) (spoken_records h (command_of run.words)) beside
-          none.0)) (omega arith)
-      | inr among ↦ elim (ended h rooms disks outs errs run.words old run.room run.out
-          run.out_after run.err run.err_after run.status is_run) [
-            | inl a ↦ at HasMade (a.made is_modelled) among
-            | inr other ↦ elim other [
-              | inl failed ↦ at MayHaveMade (failed.made is_modelled) among
-              | inr others ↦ elim others [
-                | inl out_of_memory ↦ at HasKept (out_of_memory.made is_modelled) among
-                | inr short ↦ at HasMade (short.cut.1.made is_modelled) among
+    later beside = elim (find_name rooms.leads_to asked.journals
+        (asked.outcome (rooms.file old)).journals name) [
+          | inl none ↦ subst (λ (x : Option D). clock_of disks (rooms.device old name)
+              ≤ clock_of disks x)
+              (sym (still h rooms disks outs errs crash_state only contents bytes name old
+              run is_modelled is_run (AreRecords h) (spoken_records h (command_of run.words)) beside
+              none.0)) (omega arith)
+          | inr among ↦ elim (ended h rooms disks outs errs run.words old run.room run.out
+              run.out_after run.err run.err_after run.status is_run) [
+                | inl a ↦ at HasMade (a.made is_modelled) among
+                | inr other ↦ elim other [
+                  | inl failed ↦ at MayHaveMade (failed.made is_modelled) among
+                  | inr others ↦ elim others [
+                    | inl out_of_memory ↦ at HasKept (out_of_memory.made is_modelled) among
+                    | inr short ↦ at HasMade (short.cut.1.made is_modelled) among
+                  ]
+                ]
               ]
-            ]
-          ]
-    ]
+        ]
       where
         at : (How : Journaled → Leaving) → LeavesEach rooms disks old run.room js How
-            → AreAmong js name (done_to js name)
+            → IsDoneAt rooms.leads_to js name (done_to rooms.leads_to js name)
             → clock_of disks (rooms.device old name) ≤ clock_of disks (rooms.device run.room name)
-        at How all among = (of_each (λ n d. Leaves disks (How d) (rooms.device old n)
-            (rooms.device run.room n)) js name (done_to js name) all among).later
+        at How all found =
+            let journal = found.0 in
+            let left = of_each (λ n d. Leaves disks (How d) (rooms.device old n)
+            (rooms.device run.room n)) js journal (done_to rooms.leads_to js name) all
+            found.1.1 in
+            subst (λ (x : Option D). clock_of disks x ≤ clock_of disks (rooms.device run.room name))
+            (contents.1 old journal name is_modelled found.1.0)
+            (subst (λ (x : Option D). clock_of disks (rooms.device old journal) ≤ clock_of disks x)
+            (contents.1 run.room journal name (is_run.back.is_modelled is_modelled) found.1.0)
+            left.later)
 
     pub run_steps : ((did : Journaled) × AreAmong js name did)
-        ⊎ IsOther asked.besides name → RunSteps h (program h rooms disks outs errs) old run name
+        ⊎ IsOther rooms.leads_to asked.besides name
+        → RunSteps h (program h rooms disks outs errs) old run name
     run_steps named =
         let beside = not_beside named in
         let left = leaves h rooms disks outs errs crash_state only contents bytes name old run
@@ -345,7 +360,7 @@ module _ {R S D O E : Type 0} (h : HashFunction) (rooms : Rooms R S D) (disks : 
           as_read =
               λ c there. contents_crash_state disks (rooms.device run.room name) c crash_state
               (modelled_file disks (rooms.file run.room name) (rooms.device run.room name)
-              (contents run.room name (is_run.back.is_modelled is_modelled)) ∙ there);
+              (contents.0 run.room name (is_run.back.is_modelled is_modelled)) ∙ there);
           later = later beside;
         }
 

@@ -1,35 +1,36 @@
 -- What goes out of a command that is given a secret.
-use Rattle.std.proofs.Common.{◌≡◌, inl, ℕ, Bool, true, false, List, [], ◌∷◌, None, Some}
-use Rattle.std.proofs.Common.{Result, Ok, Err, refl, sym, subst, true≢false}
+use Rattle.std.proofs.Common.{◌≡◌, inl, ℕ, Bool, true, false, List, [], ◌∷◌, Option, None, Some}
+use Rattle.std.proofs.Common.{Result, Ok, Err, refl, sym, subst, true≢false, option_map}
 use Rattle.byte_formats.specs.Offsets.{IsBytes}
 use Rattle.byte_formats.specs.Types.{HashFunction}
 use Rattle.disk_core.specs.declared.disk.Disk.{Ghosts as Disks}
 use Rattle.journal_core.proofs.Standing.{found_stands}
 use Rattle.mtc_io.specs.declared.sink.Sink.{Ghosts as Sinks}
-use Rattle.mtc_room.specs.Room.{ModelsFile}
 use Rattle.mtc_room.specs.declared.room.Room.{Ghosts as Rooms}
-use Rattle.mtc_words.specs.Commands.{CommandValue, advance, cosign, export, init_cosigner, keygen}
+use Rattle.mtc_words.specs.Commands.{CommandValue, advance, child, cosign, export, init_cosigner}
+use Rattle.mtc_words.specs.Commands.{keygen}
 use Rattle.mtc_words.specs.Words.{command_of}
 use Rattle.mtc_words.specs.declared.error.WordError.{WordError}
+use Rattle.cosigner_core.specs.Children.{next_child}
 use Rattle.cosigner_core.specs.Exports.{export_text}
 use Rattle.cosigner_core.specs.Folds.{cosigner_fold}
 use Rattle.mtc_command.specs.Answers.{Reply}
-use Rattle.mtc_command.specs.Made.{reads}
+use Rattle.mtc_command.specs.Made.{appended, reads}
 use Rattle.mtc_command.specs.Wanted.{Meets}
 use Rattle.mtc_command.specs.declared.answer.Stopped.TheVariants.{BadWords}
 use Rattle.mtc_command.proofs.Made.{OnlyNow, ReadsCrashState}
-use Rattle.mtc_cosigner.specs.CosignerOutcomes.{advanced_text}
+use Rattle.mtc_cosigner.specs.CosignerOutcomes.{advanced_text, child_line}
 use Rattle.mtc_cosigner.specs.KeygenOutcome.{lms_type, ots_type, public_line}
 use Rattle.mtc_authority.specs.Works.{IsLog}
 use Rattle.command_plans.specs.Plans.{Journal, makes, opens}
 use Rattle.command_plans.specs.Rules.{AreOfFirst}
 use Rattle.mtc_plans.specs.Commands.{plan_of, planned_outcome}
-use Rattle.mtc_plans.specs.Heard.{AdvancesSo, BeginsSo, ExportsSo, KeysSo, OfSaid}
-use Rattle.mtc_plans.specs.PartyKinds.{cosigner, log, party_kinds}
+use Rattle.mtc_plans.specs.Heard.{AdvancesSo, BeginsSo, ExportsSo, HasChildSo, KeysSo, OfSaid}
+use Rattle.mtc_plans.specs.PartyKinds.{cosigner, log, rebuilt_log, party_kinds}
 use Rattle.mtc_plans.specs.Words.{streams}
-use Rattle.mtc_plans.proofs.Heard.{advanced_so, begun_so, exported_so, keyed_so}
+use Rattle.mtc_plans.proofs.Heard.{advanced_so, begun_so, exported_so, has_child_so, keyed_so}
 use Rattle.mtc_top.specs.Facts.{facts}
-use Rattle.mtc_laws.specs.PrintLaws.{OnlyCosignSigns, Says}
+use Rattle.mtc_laws.specs.PrintLaws.{OnlyCosignSigns, PrintsKey, Says}
 use Rattle.mtc_words.specs.Reasons.{word_fault_text}
 use Rattle.mtc_laws.proofs.Printed.{did_so, heard_so, signatures_printed}
 use Rattle.mtc_laws.proofs.HeardRuns.{file_bytes, heard_run, held_rules, not_refused, printed_so}
@@ -37,27 +38,31 @@ use Rattle.mtc_laws.proofs.HeardRuns.{streamed_so}
 use Rattle.mtc_laws.proofs.Streams.{plain_command}
 use Rattle.mtc_top.specs.Executions.{program, Run}
 use Rattle.mtc_laws.proofs.Aliases.{IsRun, HasHeld, IsHeard}
+use Rattle.mtc_laws.proofs.Aliases.{ModelsFiles}
 
 -- each of these journals is a log's
 abbrev are_logs : (h : HashFunction) → List (Journal (party_kinds h)) → Bool
 are_logs h [] = true
 are_logs h (opens log beside name ∷ rest) = are_logs h rest
+are_logs h (opens rebuilt_log beside name ∷ rest) = are_logs h rest
 are_logs h (opens cosigner beside name ∷ rest) = false
 are_logs h (makes log name ∷ rest) = are_logs h rest
+are_logs h (makes rebuilt_log name ∷ rest) = are_logs h rest
 are_logs h (makes cosigner name ∷ rest) = false
 
 first_log : (h : HashFunction) (journals : List (Journal (party_kinds h))) (list : List (List ℕ))
     → are_logs h journals ≡ true → AreOfFirst (party_kinds h) journals list → IsLog h list
 first_log h [] list logs is = absurd is
 first_log h (opens log beside name ∷ rest) list logs is = is
+first_log h (opens rebuilt_log beside name ∷ rest) list logs is = is
 first_log h (opens cosigner beside name ∷ rest) list logs is = absurd (true≢false (sym logs))
 first_log h (makes log name ∷ rest) list logs is = is
+first_log h (makes rebuilt_log name ∷ rest) list logs is = is
 first_log h (makes cosigner name ∷ rest) list logs is = absurd (true≢false (sym logs))
 
 module _ {R S D O E : Type 0} (h : HashFunction) (rooms : Rooms R S D) (disks : Disks D)
     (outs : Sinks O) (errs : Sinks E) (crash_state : ReadsCrashState disks) (only : OnlyNow disks)
-    (contents : (room : R) (name : List ℕ) → rooms.is_modelled room
-    → ModelsFile disks.contents (rooms.file room name) (rooms.device room name))
+    (contents : ModelsFiles rooms disks)
     (bytes : (d : D) (b : List ℕ) → disks.contents d ≡ Some b → IsBytes b) where
   module _ (old : R) (run : Run R O E) (is_modelled : rooms.is_modelled old)
       (is_run : IsRun h rooms disks outs errs old run) (heard : IsHeard outs run) where
@@ -82,15 +87,16 @@ module _ {R S D O E : Type 0} (h : HashFunction) (rooms : Rooms R S D) (disks : 
     plain : (command : CommandValue) → Speaks command → streams command ≡ false → IsPlain
     plain command spoken is = plain_command h command spoken is
 
-    keys_printed : (height width : ℕ) (file : List ℕ) → IsPlain
-        → KeysSo (rooms.file old) height width file answer
-        → SaysSo (keygen height width file)
-    keys_printed height width file is_plain s = (
+    keys_printed : (top : ℕ) (low : Option ℕ) (width : ℕ) (file : List ℕ) → IsPlain
+        → KeysSo (rooms.file old) top low width file answer
+        → PrintsKey h (program h rooms disks outs errs) top low width file old run
+    keys_printed top low width file is_plain s = (
       s.secret,
       (
         record { there = s.has_secret.there; few = s.has_secret.few },
         printed_so h rooms disks outs errs old run is_run heard is_plain
-            (public_line (lms_type height) (ots_type width) s.secret) s.reply_is,
+            (public_line (lms_type top) (option_map lms_type low) (ots_type width) s.secret)
+            s.reply_is,
       ),
     )
 
@@ -111,13 +117,34 @@ module _ {R S D O E : Type 0} (h : HashFunction) (rooms : Rooms R S D) (disks : 
           ),
         )
 
+    next_tree : (name : List ℕ) → Speaks (child name) → SaysSo (child name)
+    next_tree name spoken =
+        let s = by_text (child name) spoken (HasChildSo h (rooms.file old) name)
+        (has_child_so h (rooms.file old) name) in
+        let list = s.found.records in
+        let are = file_bytes disks (rooms.file old name) (rooms.device old name) s.held bytes
+        (contents.0 old name is_modelled) s.there in (
+          list,
+          (
+            s.found.state,
+            (
+              (found_stands (cosigner_fold h) s.held s.found are s.is_cosigner).1,
+              did_so h rooms disks outs errs old run (child name) spoken name
+                  (appended list (next_child s.found.state)) refl s.did,
+              printed_so h rooms disks outs errs old run is_run heard
+                  (plain (child name) spoken refl) (child_line s.found.state.key.children)
+                  s.reply_is,
+            ),
+          ),
+        )
+
     exported : (name : List ℕ) → Speaks (export name) → SaysSo (export name)
     exported name spoken =
         let s = by_text (export name) spoken (ExportsSo h (rooms.file old) name)
         (exported_so h (rooms.file old) name) in
         let list = s.found.records in
         let are = file_bytes disks (rooms.file old name) (rooms.device old name) s.held bytes
-        (contents old name is_modelled) s.there in (
+        (contents.0 old name is_modelled) s.there in (
           list,
           (
             s.found.state,
@@ -151,17 +178,19 @@ module _ {R S D O E : Type 0} (h : HashFunction) (rooms : Rooms R S D) (disks : 
         spoken
         heard
     says_so (advance name file) spoken = advanced name file spoken
+    says_so (child name) spoken = next_tree name spoken
     says_so (export name) spoken = exported name spoken
-    says_so (init_cosigner name id log_id height width file) spoken =
-        keys_printed height width file
-        (plain (init_cosigner name id log_id height width file) spoken refl)
-        (by_text (init_cosigner name id log_id height width file)
-        spoken (BeginsSo h (rooms.file old) name id log_id height width file)
-        (begun_so h (rooms.file old) name id log_id height width file)).keys
+    says_so (init_cosigner name id log_id top low width file) spoken =
+        keys_printed top low width file
+        (plain (init_cosigner name id log_id top low width file) spoken refl)
+        (by_text (init_cosigner name id log_id top low width file)
+        spoken (BeginsSo h (rooms.file old) name id log_id top low width file)
+        (begun_so h (rooms.file old) name id log_id top low width file)).keys
     says_so (keygen height width file) spoken =
-        keys_printed height width file (plain (keygen height width file) spoken refl)
+        keys_printed height None width file (plain (keygen height width file) spoken refl)
         (by_text (keygen height width file) spoken
-        (KeysSo (rooms.file old) height width file) (keyed_so h (rooms.file old) height width file))
+        (KeysSo (rooms.file old) height None width file)
+        (keyed_so h (rooms.file old) height width file))
     says_so other spoken = logs other spoken refl
 
     -- arguments that are no command are refused

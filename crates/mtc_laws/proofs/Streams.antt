@@ -1,8 +1,8 @@
 -- What is known of a command that may write while it reads its journals.
 use Rattle.std.proofs.Common.{◌≡◌, ℕ, true, List, [], ◌∷◌, None, Result, Ok, Err, sym}
-use Rattle.std.proofs.Common.{IsErr, false, subst, true≢false}
+use Rattle.std.proofs.Common.{IsErr, false, refl, subst, true≢false}
 use Rattle.byte_formats.specs.Types.{HashFunction}
-use Rattle.mtc_words.specs.Commands.{CommandValue}
+use Rattle.mtc_words.specs.Commands.{CommandValue, tile_anew}
 use Rattle.mtc_words.specs.declared.error.WordError.{WordError}
 use Rattle.mtc_command.specs.Answers.{IsEarly, Reply, status_of}
 use Rattle.mtc_command.specs.Made.{Journaled, untouched}
@@ -13,7 +13,7 @@ use Rattle.command_plans.proofs.Facts.{unopened_early}
 use Rattle.mtc_plans.specs.Commands.{plan_of}
 use Rattle.mtc_plans.specs.PartyKinds.{party_kinds}
 use Rattle.mtc_plans.specs.Streams.{AddsNone, AllAddNone}
-use Rattle.mtc_plans.specs.Words.{streams}
+use Rattle.mtc_plans.specs.Words.{streams, tiles_made_by}
 use Rattle.mtc_plans.proofs.Streams.{streams_add_none, streams_make_none}
 use Rattle.mtc_top.specs.Facts.{facts}
 
@@ -46,6 +46,16 @@ module _ (h : HashFunction) where
       → (facts h r).makes ≡ None
   makes_none (Ok command) may = streams_make_none h command may
   makes_none (Err why) may = absurd (true≢false (sym may))
+
+  -- and makes no tiles whole
+  no_tiles : (command : CommandValue) → streams command ≡ true → tiles_made_by command ≡ None
+  no_tiles (tile_anew journal) may = absurd (true≢false (sym may))
+  no_tiles other may = refl
+
+  pub whole_none : (r : Result CommandValue WordError) → (facts h r).streams ≡ true
+      → (facts h r).whole ≡ None
+  whole_none (Ok command) may = no_tiles command may
+  whole_none (Err why) may = absurd (true≢false (sym may))
 
   -- a journal that isn't opened goes with a reply that may come before
   pub early_reply : (r : Result CommandValue WordError) (files : Files) (reply : Reply)

@@ -45,6 +45,7 @@ use Rattle.mtc_laws.proofs.Misread.{misread_inputs}
 use Rattle.mtc_laws.proofs.Recovered.{modelled_then}
 use Rattle.mtc_top.specs.Executions.{program, IsBegun, FileEvent}
 use Rattle.mtc_laws.proofs.Aliases.{owner_of, crash_states_in, IsOwnExecution}
+use Rattle.mtc_laws.proofs.Aliases.{ModelsFiles}
 
 -- ---- a new log has no tiles
 
@@ -122,8 +123,7 @@ no_none x is = absurd cc
 
 module _ {R S D O E : Type 0} (h : HashFunction) (rooms : Rooms R S D) (disks : Disks D)
     (outs : Sinks O) (errs : Sinks E) (crash_state : ReadsCrashState disks) (only : OnlyNow disks)
-    (contents : (room : R) (name : List ℕ) → rooms.is_modelled room
-    → ModelsFile disks.contents (rooms.file room name) (rooms.device room name))
+    (contents : ModelsFiles rooms disks)
     (bytes : (d : D) (b : List ℕ) → disks.contents d ≡ Some b → IsBytes b)
     (counts : CountsNow disks)
     (left : (d : D) (t : ℕ) (c : List ℕ) → disks.left_since d t c → IsBytes c) where
@@ -211,9 +211,9 @@ module _ {R S D O E : Type 0} (h : HashFunction) (rooms : Rooms R S D) (disks : 
             lacks.found
             (contents_crash_state disks (rooms.device new name) lacks.bytes crash_state
             (modelled_file disks (rooms.file new name) (rooms.device new name)
-            (contents new name modelled) ∙ lacks.there))
+            (contents.0 new name modelled) ∙ lacks.there))
             (held_crash_state disks (rooms.file new (tiles_name name))
             (rooms.device new (tiles_name name)) crash_state
-            (contents new (tiles_name name) modelled))
+            (contents.0 new (tiles_name name) modelled))
             lacks.log_is) ∙ lacks.lacks))
       ]

@@ -9,7 +9,6 @@ use Rattle.byte_formats.specs.Types.{HashFunction}
 use Rattle.byte_formats.proofs.Values.{map_some}
 use Rattle.disk_core.specs.declared.disk.Disk.{Ghosts as Disks}
 use Rattle.mtc_io.specs.declared.sink.Sink.{Ghosts as Sinks}
-use Rattle.mtc_room.specs.Room.{ModelsFile}
 use Rattle.mtc_room.specs.declared.room.Room.{Ghosts as Rooms}
 use Rattle.mtc_command.proofs.Made.{OnlyNow, ReadsCrashState}
 use Rattle.party_history.specs.Histories.{Valid, moved, states_after, states_from}
@@ -21,6 +20,7 @@ use Rattle.party_history.specs.declared.step.PartyStep.TheVariants.{Stop}
 use Rattle.party_history.proofs.Chains.{first_step, no_some, no_steps}
 use Rattle.mtc_laws.specs.RoomLaws.{AreOneHistory, IsJournalOf, JournalsAreOneHistory}
 use Rattle.mtc_laws.proofs.Recovered.{reached}
+use Rattle.mtc_laws.proofs.Aliases.{ModelsFiles}
 use Rattle.mtc_top.specs.Executions.{program}
 
 -- the same step of the next party
@@ -147,8 +147,7 @@ module _ (valid : Valid) where
 
 module _ {R S D O E : Type 0} (h : HashFunction) (rooms : Rooms R S D) (disks : Disks D)
     (outs : Sinks O) (errs : Sinks E) (crash_state : ReadsCrashState disks) (only : OnlyNow disks)
-    (contents : (room : R) (name : List ℕ) → rooms.is_modelled room
-    → ModelsFile disks.contents (rooms.file room name) (rooms.device room name))
+    (contents : ModelsFiles rooms disks)
     (bytes : (d : D) (b : List ℕ) → disks.contents d ≡ Some b → IsBytes b) where
   abbrev Journal : R → Type 0
   Journal = IsJournalOf h (program h rooms disks outs errs)

@@ -1,5 +1,6 @@
 -- A run of `verify` over a certificate that the store accepts.
-use Rattle.std.proofs.Common.{◌≡◌, inl, ℕ, List, Result, Ok, sym, subst, ap, ◌∙◌}
+use Rattle.std.proofs.Common.{◌≡◌, inl, ℕ, List, ◌++◌, Result, Ok, codes, sym, subst, ap, ◌∙◌}
+use Rattle.std.specs.Fmt.{decimal}
 use Rattle.std.specs.Prelude.{pos}
 use Rattle.byte_formats.specs.Types.{HashFunction}
 use Rattle.disk_core.specs.declared.disk.Disk.{Ghosts as Disks}
@@ -25,14 +26,15 @@ use Rattle.mtc_top.specs.Concluded.{Prints}
 use Rattle.mtc_top.specs.Executions.{program}
 use Rattle.mtc_top.specs.Facts.{facts}
 use Rattle.mtc_top.proofs.Runs.{answered, wrote_of}
-use Rattle.mtc_laws.specs.CertLaws.{AcceptedIsPrinted, accepted_line}
+use Rattle.mtc_laws.specs.CertLaws.{AcceptedIsPrinted}
 
 -- what the command has to reply
 verify_asked : (h : HashFunction) (files : Files) (cert store : List ℕ) (unix_time : ℕ)
     (bytes text : List ℕ) (s : Store) (a : Accepted) → HoldsText files cert 16777216 bytes
     → HoldsText files store 16777216 text → store_of text ≡ Ok s
     → judgement h bytes s (pos unix_time) ≡ Ok a
-    → verify_outcome h cert store unix_time files ≡ says Done (accepted_line a.index)
+    → verify_outcome h cert store unix_time files
+    ≡ says Done (codes "accepted " ++ (decimal a.index ++ codes "\n"))
 verify_asked h files cert store unix_time bytes text s a has_cert has_store read judged =
     bytes_read 16777216 cert (files cert) bytes
     (λ b. with_bytes 16777216 store (files store) (verify_says h cert store unix_time b))

@@ -74,7 +74,7 @@ module _ (h : HashFunction) (sized : (bytes : Text) → length (h bytes) ≡ 32)
   abbrev leaves : List Hash
   leaves = part_of (map (leaf_hash h) s.entries) start end
 
-  few_leaves : length leaves ≤ 2 ^ 20
+  few_leaves : length leaves ≤ 2 ^ 24
   few_leaves = omega (
     arith,
     length-take (end - start) (drop start (map (leaf_hash h) s.entries)),

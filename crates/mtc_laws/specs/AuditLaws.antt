@@ -42,7 +42,7 @@ pub record IsAuditOf (h : HashFunction) (files : Files) (cert store : Text) (uni
   pub entries_text : Text
   pub has_entries : HoldsText files entries 8589934592 entries_text
   pub kept_text : Text
-  pub has_kept : HoldsText files kept 1073741824 kept_text
+  pub has_kept : HoldsText files kept 8589934592 kept_text
   pub store_read : store_of store_text ≡ Ok x.store
   pub items_read : items_in h entries_text ≡ Ok x.items
   pub kept_read : export_in h kept_text ≡ Ok x.kept

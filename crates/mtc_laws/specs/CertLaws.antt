@@ -20,10 +20,6 @@ use Rattle.mtc_top.specs.Concluded.{Prints}
 use Rattle.mtc_top.specs.Executions.{HasPrinted, Run}
 use Rattle.mtc_laws.specs.PrintLaws.{OfEachRun, OfHeard}
 
--- What `verify` prints of a certificate of this index that it accepts.
-abbrev pub accepted_line : ℕ → Text
-accepted_line index = codes "accepted " ++ (decimal index ++ codes "\n")
-
 module _ (h : HashFunction) (p : Program) where
   -- The run found a log, and what went out of it is the certificate of the log's entry at this
   -- index, in this subtree and with these signatures.
@@ -58,7 +54,8 @@ module _ (h : HashFunction) (p : Program) where
   -- The run of `verify` accepts this index, with status 0, unless it ends with status 5, 6 or 8.
   abbrev pub PrintsAccepted : ℕ → Run p.R p.O p.E → Type 0
   PrintsAccepted index run = run.status ≢ 5 → run.status ≢ 6 → run.status ≢ 8
-      → (run.status ≡ 0) × Prints p.outs run.out run.out_after (accepted_line index)
+      → (run.status ≡ 0)
+      × Prints p.outs run.out run.out_after (codes "accepted " ++ (decimal index ++ codes "\n"))
 
   -- These are the files of a run of `verify` at this time: the certificate, and a store.
   pub record HasVerified (bytes : Text) (store : Store) (unix_time : ℕ) (old : p.R)

@@ -1,21 +1,24 @@
 -- What holds of each execution of a journal, from the run on that made or opened it.
-use Rattle.std.specs.Prelude.{◌≡◌, ◌⊎◌, ℕ, true, List, [], ◌∷◌, ◌++◌, length, Some, Ok}
+use Rattle.std.specs.Prelude.{◌≡◌, ◌⊎◌, ◌↔◌, true, List, [], ◌∷◌, ◌++◌, length, Some, Ok}
 use Rattle.byte_formats.specs.Types.{HashFunction, Text}
 use Rattle.mtc_top.specs.Executions.{owner, WasHeld, IsBegun, IsReached, Run, FileEvent}
 use Rattle.file_events.specs.Executions.{IsPrefix}
 use Rattle.journal_core.specs.Format.{Represents}
-use Rattle.cosigner_core.specs.Counts.{AreCounted, indices_of}
+use Rattle.cosigner_core.specs.Counts.{AreCounted}
+use Rattle.cosigner_core.specs.Records.{step_in}
 use Rattle.cosigner_core.specs.declared.settings.CosignerSettings.{CosignerSettings}
+use Rattle.cosigner_core.specs.declared.step.Step.{Step}
 use Rattle.issuance_log.specs.Folds.{LogState, log_of}
 use Rattle.issuance_log.specs.Records.{item_in}
 use Rattle.issuance_log.specs.Settings.{Settings}
+use Rattle.party_history.specs.KeyUses.{UseOneKey}
 use Rattle.party_history.specs.Laws.{HasItemAt, KeepsItems}
 use Rattle.party_history.specs.Rules.{IsReadAs, StartsWith, may_follow}
 use Rattle.party_history.specs.declared.start.PartyStart.{PartyStart}
 use Rattle.party_history.specs.declared.start.PartyStart.TheVariants.{Log, Cosigner}
 use Rattle.file_events.specs.Events.{HasReleased, MayRecover, EventHolds}
 use Rattle.file_events.specs.Worlds.{Program, EachRun, IsFileExecution, own_events, states_of}
-use Rattle.file_events.specs.Worlds.{heard_of}
+use Rattle.file_events.specs.Worlds.{IsOneFile, heard_of}
 use Rattle.file_events.specs.Owners.{did_to}
 use Rattle.mtc_command.specs.Made.{appended}
 
@@ -32,10 +35,6 @@ pub record IsReadAsParty (h : HashFunction) (start : PartyStart) (first c : Text
   pub of_party : AreOfParty h start first records
   pub read : IsReadAs h start c records
 
--- The record adds this number to those of the one-time keys that these records have used.
-abbrev pub UsesKey : List Text → Text → ℕ → Type 0
-UsesKey list body number = indices_of (list ++ body ∷ []) ≡ indices_of list ++ number ∷ []
-
 module _ (h : HashFunction) (p : Program) where
   -- This holds of each execution that begins with a run that made or opened the journal.
   abbrev pub OfExecutions :
@@ -44,6 +43,16 @@ module _ (h : HashFunction) (p : Program) where
   OfExecutions P = (name : Text) (start : PartyStart) (first : Text) (old new : p.R)
       (events : List (FileEvent p.R p.O p.E)) → IsBegun h p name start first old events
       → IsFileExecution p (owner h p name) old events new → P name start first old events new
+
+  -- An execution is of a file, however it is named: one of a name's journal is one of each name of
+  -- that place, with the same events, and a crash may leave the same of both.
+  abbrev pub ExecutionsAreOfFiles : Type 0
+  ExecutionsAreOfFiles = (name other : Text) → IsOneFile p name other → (old new : p.R)
+      (events : List (FileEvent p.R p.O p.E)) → p.rooms.is_modelled old
+      → IsFileExecution p (owner h p name) old events new
+      → IsFileExecution p (owner h p other) old events new
+      × ((own_events p (owner h p other) old events ≡ own_events p (owner h p name) old events)
+      × ((c : Text) → states_of p other new c ↔ states_of p name new c))
 
   -- It is a history of the party.
   abbrev pub ExecutionsHaveHistories : Type 0
@@ -57,8 +66,8 @@ module _ (h : HashFunction) (p : Program) where
       (c : Text) → states_of p name new c ⊎ (p.rooms.file new name ≡ Some c)
       → IsReadAsParty h start first c)
 
-  -- The i-th Sign record of a cosigner, counted from 0, has the number i, so no number stands
-  -- twice.
+  -- The i-th Sign record of a cosigner, counted from 0, has the number i, and so has the i-th Child
+  -- record, so no number stands twice.
   abbrev pub KeysSignOnce : Type 0
   KeysSignOnce = OfExecutions (λ name start first old events new.
       (settings : CosignerSettings) (public : Text) → start ≡ Cosigner settings public
@@ -70,10 +79,11 @@ module _ (h : HashFunction) (p : Program) where
   abbrev pub KeysSignOneMessage : Type 0
   KeysSignOneMessage = OfExecutions (λ name start first old events new.
       (settings : CosignerSettings) (public : Text) → start ≡ Cosigner settings public
-      → (list other more others : List Text) (body message : Text) (number : ℕ)
+      → (list other more others : List Text) (body message : Text) (one two : Step)
       → WasHeld h p name old events (list ++ body ∷ more)
       → WasHeld h p name old events (other ++ message ∷ others)
-      → UsesKey list body number → UsesKey other message number → body ≡ message)
+      → step_in body ≡ Some one → step_in message ≡ Some two → UseOneKey one two
+      → body ≡ message)
 
   -- Each crash state represents records, and those that a run found or made are the first of them.
   abbrev pub RecoveredListsGrow : Type 0

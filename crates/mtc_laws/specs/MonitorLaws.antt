@@ -2,7 +2,7 @@
 use Rattle.byte_formats.specs.Types.{HashFunction, Text}
 use Rattle.file_events.specs.Worlds.{Program}
 use Rattle.mtc_words.specs.Commands.{monitor}
-use Rattle.mtc_monitor.specs.StateFiles.{IsPrinted, MonitorCommand}
+use Rattle.mtc_monitor.specs.StateFiles.{IsPrinted}
 use Rattle.mtc_top.specs.Executions.{HasPrinted, Run}
 use Rattle.mtc_laws.specs.PrintLaws.{OfEachRun, OfHeard}
 

@@ -1,18 +1,20 @@
 -- What goes out of `issue`, `switch` and `cosign`, in addition to the request that they read and
 -- the record that they add, and what becomes of that record.
-use Rattle.std.specs.Prelude.{◌≡◌, true, List, [], ◌∷◌, ◌++◌, length, Some, Ok}
+use Rattle.std.specs.Prelude.{◌≡◌, true, ℕ, List, [], ◌∷◌, ◌++◌, length, Option, None}
+use Rattle.std.specs.Prelude.{Some, option_map, Ok}
 use Rattle.byte_formats.specs.Types.{HashFunction, Text}
 use Rattle.file_events.specs.Executions.{IsPrefix}
 use Rattle.file_events.specs.Worlds.{Program, EachRun, states_of, heard_of}
 use Rattle.file_events.specs.Owners.{did_to}
 use Rattle.file_events.specs.Events.{MayRecover, EventHolds}
 use Rattle.journal_core.specs.Format.{Represents}
-use Rattle.mtc_words.specs.Commands.{CommandValue, advance, cosign, export, init_cosigner, issue}
-use Rattle.mtc_words.specs.Commands.{keygen, switch}
+use Rattle.mtc_words.specs.Commands.{CommandValue, advance, child, cosign, export, init_cosigner}
+use Rattle.mtc_words.specs.Commands.{issue, keygen, switch}
 use Rattle.mtc_words.specs.Words.{command_of}
 use Rattle.authority_core.specs.Files.{request_of}
 use Rattle.authority_core.specs.Issues.{issued_entry}
 use Rattle.authority_core.specs.Requests.{RequestParts}
+use Rattle.cosigner_core.specs.Children.{next_child}
 use Rattle.cosigner_core.specs.Exports.{export_text}
 use Rattle.cosigner_core.specs.Folds.{CosignerState, cosigner_of}
 use Rattle.cosigner_core.specs.Reading.{advance_in, subtree_in}
@@ -23,7 +25,7 @@ use Rattle.issuance_log.specs.Folds.{LogState, log_of, view_in}
 use Rattle.issuance_log.specs.Records.{item_in, switch_record}
 use Rattle.issuance_log.specs.Settings.{Settings}
 use Rattle.mtc_command.specs.Made.{appended, reads}
-use Rattle.mtc_cosigner.specs.CosignerOutcomes.{advanced_text, cosigned_text}
+use Rattle.mtc_cosigner.specs.CosignerOutcomes.{advanced_text, child_line, cosigned_text}
 use Rattle.mtc_cosigner.specs.KeygenOutcome.{lms_type, ots_type, public_line}
 use Rattle.mtc_authority.specs.IssueOutcome.{issued_text}
 use Rattle.mtc_authority.specs.SwitchOutcome.{switched_line}
@@ -31,7 +33,7 @@ use Rattle.mtc_authority.specs.Works.{IsLog}
 use Rattle.party_history.specs.Laws.{HasItemAt}
 use Rattle.party_history.specs.declared.start.PartyStart.TheVariants.{Log}
 use Rattle.mtc_laws.specs.AuditLaws.{HoldsText}
-use Rattle.mtc_laws.specs.ExecutionLaws.{OfExecutions, UsesKey}
+use Rattle.mtc_laws.specs.ExecutionLaws.{OfExecutions}
 use Rattle.mtc_top.specs.Executions.{owner, HasPrinted, HasStreamed, Run}
 
 module _ (h : HashFunction) (p : Program) where
@@ -60,8 +62,8 @@ module _ (h : HashFunction) (p : Program) where
     pub printed : HasPrinted p run (switched_line (length state.entries))
 
   -- The run read a request from this file, and added a Sign record to a cosigner with these
-  -- records. It adds the number of the next one-time key to those that were used. What went out is
-  -- the signature by that key, over the interval and the hash of the request.
+  -- records, with the number of the next one-time key. What went out is the signature by that key,
+  -- over the interval and the hash of the request.
   pub record HasCosigned (name file : Text) (old : p.R) (run : Run p.R p.O p.E) : Type 0 where
     pub text : Text
     pub has_text : HoldsText (p.rooms.file old) file 16777216 text
@@ -72,31 +74,39 @@ module _ (h : HashFunction) (p : Program) where
     pub cosigner_is : cosigner_of h list ≡ Ok state
     pub body : Text
     pub did : did_to p name old run ≡ appended list body
-    pub uses : UsesKey list body state.key.next
     pub signs : step_in body
         ≡ Some (Sign state.key.next request.start request.end request.hash request.proof)
     pub printed : HasPrinted p run (cosigned_text state request)
 
+  -- The run read a secret from this file. What went out is its public key: by the height of its
+  -- tree, that of lower trees if it has two levels, and the width of its one-time keys.
+  abbrev pub PrintsKey : ℕ → Option ℕ → ℕ → Text → p.R → Run p.R p.O p.E → Type 0
+  PrintsKey top low width file old run = (secret : Text)
+      × (HoldsText (p.rooms.file old) file 16777216 secret × HasPrinted p run
+      (public_line (lms_type top) (option_map lms_type low) (ots_type width) secret))
+
   -- What goes out of a command that opens a cosigner's journal, or is given a secret file as such.
   -- `cosign` prints a signature, and has added its record. `advance` prints the size in the request
-  -- that it read, `export` the ids, the public key and the records after the first of those that it
-  -- read, and those that are given a secret file print its public key. Each journal that another
-  -- command opens or makes is a log's, and of what goes out of it nothing is said here.
+  -- that it read; `child` the number of the next lower tree, and has added its record; `export` the
+  -- ids, the public key and the records after the first of those that it read; and those that are
+  -- given a secret file print its public key. Each journal that another command opens or makes is a
+  -- log's, and of what goes out of it nothing is said here.
   abbrev pub Says : CommandValue → p.R → Run p.R p.O p.E → Type 0
   Says (cosign name file) old run = HasCosigned name file old run
   Says (advance name file) old run = (text : Text) × ((request : AdvanceParts)
       × (HoldsText (p.rooms.file old) file 16777216 text × (advance_in text ≡ Ok request)
       × HasPrinted p run (advanced_text request.size)))
+  Says (child name) old run = (list : List Text) × ((state : CosignerState)
+      × ((cosigner_of h list ≡ Ok state)
+      × (did_to p name old run ≡ appended list (next_child state))
+      × HasPrinted p run (child_line state.key.children)))
   Says (export name) old run = (list : List Text) × ((state : CosignerState)
       × ((cosigner_of h list ≡ Ok state)
       × (did_to p name old run ≡ reads list)
       × HasStreamed p run (export_text state list)))
-  Says (init_cosigner name id log height width file) old run = (secret : Text)
-      × (HoldsText (p.rooms.file old) file 16777216 secret
-      × HasPrinted p run (public_line (lms_type height) (ots_type width) secret))
-  Says (keygen height width file) old run = (secret : Text)
-      × (HoldsText (p.rooms.file old) file 16777216 secret
-      × HasPrinted p run (public_line (lms_type height) (ots_type width) secret))
+  Says (init_cosigner name id log top low width file) old run =
+      PrintsKey top low width file old run
+  Says (keygen height width file) old run = PrintsKey height None width file old run
   Says other old run = (name : Text) (list : List Text)
       → EventHolds list ((owner h p name).run_event old run) → IsLog h list
 

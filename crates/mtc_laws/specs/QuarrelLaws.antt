@@ -74,5 +74,5 @@ module _ (h : HashFunction) (p : Program) where
   TwoSignaturesCollide = (old : p.R) (run : Run p.R p.O p.E) (kept kept_text : Text)
       → p.rooms.is_modelled old → p.HasRun old run
       → command_of run.words ≡ Ok (quarrel kept)
-      → HoldsText (p.rooms.file old) kept 1073741824 kept_text → HasSignedTwice kept_text
+      → HoldsText (p.rooms.file old) kept 8589934592 kept_text → HasSignedTwice kept_text
       → run.status ≢ 5 → run.status ≢ 6 → run.status ≢ 8 → Convicts run

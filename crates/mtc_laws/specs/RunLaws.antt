@@ -125,9 +125,10 @@ module _ (h : HashFunction) (p : Program) where
         ≤ clock_of p.disks (p.rooms.device run.room name)
 
   -- So it is of each journal that a run works on, if the model knows the files; and of each other
-  -- name that isn't that of a file beside one.
+  -- name whose place isn't that of a file beside one.
   abbrev pub RunsAreSteps : Type 0
   RunsAreSteps = (old : p.R) (run : Run p.R p.O p.E) → p.rooms.is_modelled old
       → p.HasRun old run → (name : Text)
       → ((did : Journaled) × AreAmong (p.journals old run) name did)
-      ⊎ IsOther (facts h (command_of run.words)).besides name → RunSteps old run name
+      ⊎ IsOther p.rooms.leads_to (facts h (command_of run.words)).besides name
+      → RunSteps old run name

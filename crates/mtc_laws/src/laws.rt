@@ -4,7 +4,8 @@
 ghost use Rattle.mtc_laws.specs.AcceptanceLaws.{IssuedCertificatesAreAccepted};
 ghost use Rattle.mtc_laws.specs.AuditLaws.{AuditsDecide, AuditsStand};
 ghost use Rattle.mtc_laws.specs.QuarrelLaws.{TwoSignaturesCollide};
-ghost use Rattle.mtc_laws.specs.ExecutionLaws.{AddedEntriesStand, ExecutionsHaveHistories};
+ghost use Rattle.mtc_laws.specs.ExecutionLaws.{AddedEntriesStand, ExecutionsAreOfFiles};
+ghost use Rattle.mtc_laws.specs.ExecutionLaws.{ExecutionsHaveHistories};
 ghost use Rattle.mtc_laws.specs.ExecutionLaws.{EntriesStand};
 ghost use Rattle.mtc_laws.specs.ExecutionLaws.{ReleasedStand, ReleasedWasHeld};
 ghost use Rattle.mtc_laws.specs.ExecutionLaws.{JournalsAreOfParties, JournalsAreRead};
@@ -40,6 +41,13 @@ pub fn law_runs_may_lose_their_text<H: TreeHash, R: Room, O: Sink, E: Sink>()
     ensures { PrefixesAreRuns H.hash R.Room R.Dsk.Disk O.Sink E.Sink }
 {}
 
+/// An execution is of a file, and not of a name: one of the journal of a name is one of each other
+/// name of that place, with the same events and crash states. So each law of executions is of every
+/// name that leads to the file.
+pub fn law_executions_are_of_files<H: TreeHash, R: Room, O: Sink, E: Sink>()
+    ensures { ExecutionsAreOfFiles H.hash (program H.hash R.Room R.Dsk.Disk O.Sink E.Sink) }
+{}
+
 /// From a run on that made or opened a journal, whatever runs there are by any arguments, wherever
 /// they fail, wherever the machine stops between two runs or in the middle of one, and wherever the
 /// program is killed in one: what became of the journal is a history of its party.
@@ -53,10 +61,11 @@ pub fn law_executions_make_one_history<H: TreeHash, R: Room, O: Sink, E: Sink>()
     ensures { JournalsAreOneHistory H.hash (program H.hash R.Room R.Dsk.Disk O.Sink E.Sink) }
 {}
 
-/// In no execution do two records of a cosigner's journal have the number of the same one-time key:
-/// the i-th Sign record of a journal that may be recovered, counted from 0, has the number i. If
-/// two of the records that runs of the execution found or added use one key of the journal, they
-/// are one record, and so of one message. The released records are among them.
+/// In no execution do two records of a cosigner's journal use the same one-time key, of its only
+/// tree, of the upper tree or of a lower one: of a journal that may be recovered the i-th Sign
+/// record, counted from 0, has the number i, and so has the i-th Child record. If two of the
+/// records that runs of the execution found or added use one key of the journal, they are one
+/// record, and so of one message. The released records are among them.
 pub fn law_no_one_time_key_signs_twice<H: TreeHash, R: Room, O: Sink, E: Sink>()
     ensures records { KeysSignOnce H.hash (program H.hash R.Room R.Dsk.Disk O.Sink E.Sink) }
     ensures messages { KeysSignOneMessage H.hash (program H.hash R.Room R.Dsk.Disk O.Sink E.Sink) }
@@ -169,10 +178,11 @@ pub fn law_two_signatures_collide<H: TreeHash, R: Room, O: Sink, E: Sink>()
 /// of the request. It is the whole with status 0; with 6, the one other status, it is a prefix.
 /// Arguments that are no command do no work, and nothing goes out. Of the commands that open a
 /// cosigner's journal, or are given a secret file as such, only `cosign` prints a signature by it.
-/// `advance` prints the size in its request. `export` prints the ids, the public key and the
-/// records after the first of those that it read, and `init-cosigner` and `keygen` the public key
-/// of the secret file. Each journal that another command opens or makes is a log's. Nothing is said
-/// of what goes out of those.
+/// `advance` prints the size in its request, and `child` the number of the lower tree whose record
+/// it adds. `export` prints the ids, the public key and the records after the first of those that
+/// it read, and `init-cosigner`, `init-cosigner2` and `keygen` the public key of the secret file.
+/// Each journal that another command opens or makes is a log's. Nothing is said of what goes out of
+/// those.
 pub fn law_printed_texts_are_of_their_records<H: TreeHash, R: Room, O: Sink, E: Sink>()
     ensures indices { IndicesArePrinted H.hash (program H.hash R.Room R.Dsk.Disk O.Sink E.Sink) }
     ensures switches { SwitchesArePrinted H.hash (program H.hash R.Room R.Dsk.Disk O.Sink E.Sink) }

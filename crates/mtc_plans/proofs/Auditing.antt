@@ -23,12 +23,11 @@ use Rattle.entry_list.specs.Reasons.{items_fault_text}
 use Rattle.policy_core.specs.Reasons.{store_fault_text}
 use Rattle.command_plans.specs.Kinds.{Kinds}
 use Rattle.command_plans.specs.Outcomes.{outcome_of, step_outcome}
-use Rattle.command_plans.specs.Plans.{Input, Read}
+use Rattle.command_plans.specs.Plans.{Input, Read, only_prints, in_form}
 use Rattle.command_plans.proofs.Forms.{bytes_same, form_same}
-use Rattle.mtc_plans.specs.AuditPlans.{audit_judged_by, audit_plan, audit_step, audited_step}
+use Rattle.mtc_plans.specs.AuditPlans.{audit_judged_by, audit_plan, audited_step}
 use Rattle.mtc_plans.specs.AuditPlans.{quarrel_judged, quarrel_judged_by, quarrel_plan}
-use Rattle.mtc_plans.specs.AuditPlans.{quarrel_step}
-use Rattle.mtc_plans.specs.Steps.{entries_file, large_file, small_file}
+use Rattle.mtc_plans.specs.Steps.{list_file, small_file}
 use Rattle.mtc_plans.proofs.Reading.{verdict_same}
 use Rattle.mtc_plans.proofs.Texts.{first_read, fourth_read, second_read, third_read, reported_alone}
 
@@ -56,7 +55,11 @@ module _ (k : Kinds) (h : HashFunction) (files : Files) (inputs : List Input) wh
 
   audit_same : (unix_time : ℕ) (c s e x : Read inputs)
       → audit_store_says h (file_of c) (file_of s) unix_time (file_of e) (file_of x)
-      ≡ step_outcome {k = k} [] (audit_step h unix_time c s e x) files
+      ≡ step_outcome {k = k} [] (in_form s store_fault_text (store_of s.text) (λ trusted.
+      in_form e items_fault_text (items_in h e.text) (λ items.
+      in_form x export_fault_text (export_in h x.text) (λ kept.
+      audited_step h c trusted items kept (accepted_in h c.text trusted (pos unix_time))))))
+      files
   audit_same unix_time c s e x =
       form_same [] files s store_fault_text (store_of s.text) _ _ (λ store.
       form_same [] files e items_fault_text (items_in h e.text) _ _ (λ items.
@@ -70,12 +73,12 @@ pub audit_plans : (k : Kinds) (h : HashFunction) (cert store : List ℕ) (unix_t
 audit_plans k h cert store unix_time entries export files =
     let one = small_file cert in
     let two = small_file store in
-    let three = entries_file entries in
-    let four = large_file export in
+    let three = list_file entries in
+    let four = list_file export in
     bytes_same 16777216 cert (files cert) _ _
     (λ c. bytes_same 16777216 store (files store) _ _
     (λ s. bytes_same 8589934592 entries (files entries) _ _
-    (λ e. bytes_same 1073741824 export (files export) _ _
+    (λ e. bytes_same 8589934592 export (files export) _ _
     (λ x. audit_same k h files (one ∷ (two ∷ (three ∷ (four ∷ [])))) unix_time
     (first_read one (two ∷ (three ∷ (four ∷ []))) c)
     (second_read one two (three ∷ (four ∷ [])) s)
@@ -94,13 +97,14 @@ kept_same h (Some kept) = conflict_same h kept.steps (quarrel_of kept.steps)
 
 module _ (k : Kinds) (h : HashFunction) (files : Files) (inputs : List Input) where
   quarrel_same : (x : Read inputs) → quarrel_says h x.file.name x.text
-      ≡ step_outcome {k = k} [] (quarrel_step h x) files
+      ≡ step_outcome {k = k} [] (in_form x export_fault_text (export_in h x.text)
+      (λ kept. only_prints (quarrel_judged h kept))) files
   quarrel_same x =
       form_same [] files x export_fault_text (export_in h x.text) _ _ (λ kept. kept_same h kept)
 
 pub quarrel_plans : (k : Kinds) (h : HashFunction) (export : List ℕ) (files : Files)
     → quarrel_outcome h export files ≡ outcome_of (quarrel_plan {k = k} h export) files
 quarrel_plans k h export files =
-    let one = large_file export in
-    bytes_same 1073741824 export (files export) _ _
+    let one = list_file export in
+    bytes_same 8589934592 export (files export) _ _
     (λ x. quarrel_same k h files (one ∷ []) (first_read one [] x))

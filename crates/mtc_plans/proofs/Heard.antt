@@ -10,9 +10,12 @@ use Rattle.authority_core.specs.Files.{request_of}
 use Rattle.authority_core.specs.Issues.{issued_batch, issued_entry, issued_items, issued_record}
 use Rattle.authority_core.specs.RequestLists.{requests_of}
 use Rattle.authority_core.specs.Requests.{RequestParts}
+use Rattle.cosigner_core.specs.Children.{child_refused, next_child}
 use Rattle.cosigner_core.specs.Reading.{advance_in, subtree_in}
 use Rattle.cosigner_core.specs.Records.{advance_record, cosigner_record, sign_record}
 use Rattle.cosigner_core.specs.Refusals.{advance_refused, cosign_refused}
+use Rattle.cosigner_core.specs.declared.error.ChildError.{ChildError}
+use Rattle.cosigner_core.specs.declared.error.ChildError.TheVariants as child_error
 use Rattle.cosigner_core.specs.declared.error.CosignError.{CosignError}
 use Rattle.cosigner_core.specs.declared.error.CosignError.TheVariants.{Append}
 use Rattle.issuance_log.specs.Folds.{LogView, view_in}
@@ -28,13 +31,13 @@ use Rattle.mtc_command.specs.declared.answer.Said.{Said}
 use Rattle.mtc_command.specs.declared.answer.Said.TheVariants.{Done}
 use Rattle.mtc_command.specs.declared.answer.Stopped.TheVariants.{Beyond, NotAllowed}
 use Rattle.authority_core.specs.Reasons.{request_fault_text, request_list_fault_text}
-use Rattle.cosigner_core.specs.Reasons.{step_fault_text, form_fault_text}
+use Rattle.cosigner_core.specs.Reasons.{child_fault_text, form_fault_text, step_fault_text}
 use Rattle.issuance_log.specs.Reasons.{log_fault_text}
 use Rattle.mtc_authority.specs.IssueOutcome.{issued_text}
 use Rattle.mtc_authority.specs.ListOutcomes.{issued_lines}
 use Rattle.mtc_authority.specs.SwitchOutcome.{switched_line}
 use Rattle.mtc_authority.specs.declared.work.Work.TheVariants.{Issue, IssueList, Switch}
-use Rattle.mtc_cosigner.specs.CosignerOutcomes.{advanced_text, cosigned_text}
+use Rattle.mtc_cosigner.specs.CosignerOutcomes.{advanced_text, child_line, cosigned_text}
 use Rattle.mtc_cosigner.specs.InitOutcome.{cosigner_settings_of}
 use Rattle.mtc_cosigner.specs.KeygenOutcome.{lms_type, ots_type, public_line}
 use Rattle.command_plans.specs.Kinds.{Kinds}
@@ -43,19 +46,22 @@ use Rattle.command_plans.specs.Plans.{Beside, Deed, Finds, Input, Journal, Plan,
 use Rattle.command_plans.specs.Plans.{in_form, misreads, only_reads, only_prints, opens, prints}
 use Rattle.command_plans.specs.Plans.{works}
 use Rattle.command_plans.proofs.Facts.{heard_passed, not_refused}
-use Rattle.mtc_plans.specs.CosignerPlans.{advance_reported, cosign_reported, export_plan}
-use Rattle.mtc_plans.specs.CosignerPlans.{export_reported}
-use Rattle.mtc_plans.specs.CosignerPlans.{init_cosigner_plan, step_reported}
+use Rattle.mtc_plans.specs.CosignerPlans.{advance_reported, child_judged}
+use Rattle.mtc_plans.specs.CosignerPlans.{child_plan, child_reported, cosign_reported}
+use Rattle.mtc_plans.specs.CosignerPlans.{export_plan, export_reported}
+use Rattle.mtc_plans.specs.CosignerPlans.{init_cosigner_plan, step_judged}
 use Rattle.mtc_plans.specs.Heard.{AdvancedTextsAreOfRecords, BegunTextsAreOfSecrets}
-use Rattle.mtc_plans.specs.Heard.{CosignedTextsAreOfRecords, ExportedTextsAreOfRecords}
+use Rattle.mtc_plans.specs.Heard.{ChildTextsAreOfRecords, CosignedTextsAreOfRecords}
+use Rattle.mtc_plans.specs.Heard.{ExportedTextsAreOfRecords}
 use Rattle.mtc_plans.specs.Heard.{HoldsSmall, IssuedListsAreOfRecords, IssuedTextsAreOfRecords}
 use Rattle.mtc_plans.specs.Heard.{KeyTextsAreOfSecrets, SwitchedTextsAreOfRecords}
 use Rattle.mtc_plans.specs.LogPlans.{work_plan}
-use Rattle.mtc_plans.specs.LogWork.{issue_reported, list_reported, switch_reported, work_reported}
+use Rattle.mtc_plans.specs.LogWork.{entry_judged, switch_judged, work_reported}
 use Rattle.mtc_plans.specs.PartyKinds.{PartyKind, PartyState, cosigner, log, party_fold}
 use Rattle.mtc_plans.specs.PartyKinds.{party_kinds}
 use Rattle.mtc_plans.specs.ReadPlans.{keygen_plan}
-use Rattle.mtc_plans.specs.Steps.{StepReport, deed_new, deed_on, in_secret, small_file}
+use Rattle.mtc_plans.specs.Steps.{StepReport, added_by, deed_new, deed_on, in_secret}
+use Rattle.mtc_plans.specs.Steps.{small_file}
 
 -- ---- which step was taken
 
@@ -162,8 +168,10 @@ module _ {F E : Type 0} (h : HashFunction) (files : Files) (kind : PartyKind) (b
 
 issue_so : (h : HashFunction) (r : RequestParts) (v : LogView) (why : Option LogError)
     (status : Said) (text : List ℕ)
-    → Meets (wanted_of (issue_reported h r v why).0) (said status text)
-    → (why ≡ None) × (((issue_reported h r v why).1 ≡ Some (issued_record h v r))
+    → Meets (wanted_of (added_by entry_judged (issued_record h v r)
+    (issued_text v.size) why).0) (said status text)
+    → (why ≡ None) × (((added_by entry_judged (issued_record h v r)
+    (issued_text v.size) why).1 ≡ Some (issued_record h v r))
     × (said status text ≡ said Done (issued_text v.size)))
 issue_so h r v None status text meets = (refl, (refl, meets))
 issue_so h r v (Some why) status text meets =
@@ -194,8 +202,10 @@ issued_so h files journal file status text meets =
 
 list_so : (h : HashFunction) (rs : List RequestParts) (v : LogView) (why : Option LogError)
     (status : Said) (text : List ℕ)
-    → Meets (wanted_of (list_reported h rs v why).0) (said status text)
-    → (why ≡ None) × (((list_reported h rs v why).1 ≡ Some (issued_batch h v rs))
+    → Meets (wanted_of (added_by entry_judged (issued_batch h v rs)
+    (issued_lines v.size (length rs)) why).0) (said status text)
+    → (why ≡ None) × (((added_by entry_judged (issued_batch h v rs)
+    (issued_lines v.size (length rs)) why).1 ≡ Some (issued_batch h v rs))
     × (said status text ≡ said Done (issued_lines v.size (length rs))))
 list_so h rs v None status text meets = (refl, (refl, meets))
 list_so h rs v (Some why) status text meets =
@@ -226,8 +236,10 @@ all_issued_so h files journal file status text meets =
 -- ---- switch
 
 switch_so : (v : LogView) (why : Option LogError) (status : Said) (text : List ℕ)
-    → Meets (wanted_of (switch_reported v why).0) (said status text)
-    → (why ≡ None) × (((switch_reported v why).1 ≡ Some (switch_record v.size))
+    → Meets (wanted_of (added_by switch_judged (switch_record v.size)
+    (switched_line v.size) why).0) (said status text)
+    → (why ≡ None) × (((added_by switch_judged (switch_record v.size)
+    (switched_line v.size) why).1 ≡ Some (switch_record v.size))
     × (said status text ≡ said Done (switched_line v.size)))
 switch_so v None status text meets = (refl, (refl, meets))
 switch_so v (Some (AlreadySwitched index)) status text meets =
@@ -265,8 +277,8 @@ switched_so h files journal status text meets =
 -- ---- a cosigner's journal
 
 step_so : (body line : List ℕ) (why : Option CosignError) (status : Said) (text : List ℕ)
-    → Meets (wanted_of (step_reported body line why).0) (said status text)
-    → (why ≡ None) × (((step_reported body line why).1 ≡ Some body)
+    → Meets (wanted_of (added_by step_judged body line why).0) (said status text)
+    → (why ≡ None) × (((added_by step_judged body line why).1 ≡ Some body)
     × (said status text ≡ said Done line))
 step_so body line None status text meets = (refl, (refl, meets))
 step_so body line (Some (Append why)) status text meets =
@@ -318,6 +330,42 @@ cosigned_so h files journal file status text meets =
       reply_is = so.1.1;
     }
 
+child_so : (body line : List ℕ) (why : Option ChildError) (status : Said) (text : List ℕ)
+    → Meets (wanted_of (added_by child_judged body line why).0) (said status text)
+    → (why ≡ None) × (((added_by child_judged body line why).1 ≡ Some body)
+    × (said status text ≡ said Done line))
+child_so body line None status text meets = (refl, (refl, meets))
+child_so body line (Some (child_error.Append why)) status text meets =
+    absurd (not_refused status text Beyond None (child_fault_text (child_error.Append why)) meets)
+child_so body line (Some why) status text meets =
+    absurd (not_refused status text NotAllowed None (child_fault_text why) meets)
+
+pub has_child_so : ChildTextsAreOfRecords
+has_child_so h files journal status text meets =
+    let plan = child_plan h journal in
+    let passed = heard_passed (party_kinds h) plan files status text meets in
+    let found = passed.founds.0 in
+    let deed : Deed plan.journals = deed_on (child_reported found) in
+    let eq : deed ≡ passed.say passed.founds = same_work passed.say
+    (λ founds. deed_on (child_reported founds.0)) passed.founds (works passed.say) refl
+    passed.works_so in
+    let so = child_so (next_child found.state) (child_line found.state.key.children)
+    (child_refused found.state false (end_offset found.records)) status text
+    (subst (λ (d : Deed plan.journals). Meets (wanted_of d.answer) (said status text)) (sym eq)
+    passed.meets) in
+    record {
+      held = passed.are_found.0.bytes;
+      there = passed.are_found.0.there;
+      found = found;
+      is_cosigner = passed.are_found.0.is;
+      fits = so.0;
+      did = ap (λ (o : Outcome). o.journals) passed.is
+          ∙ (ap (λ (d : Deed plan.journals).
+          (deed_outcome plan.journals passed.founds d).journals) (sym eq)
+          ∙ ap (λ (m : Option (List ℕ)). opened_did found.records m ∷ []) so.1.0);
+      reply_is = so.1.1;
+    }
+
 pub exported_so : ExportedTextsAreOfRecords
 exported_so h files journal status text meets =
     let plan = export_plan h journal in
@@ -346,7 +394,7 @@ keyed_so h files height width file status text meets =
     let plan : Plan (party_kinds h) = keygen_plan height width file in
     let passed = heard_passed (party_kinds h) plan files status text meets in
     let read = passed.read.0 in
-    let judged = prints Done (public_line (lms_type height) (ots_type width) read.text) in
+    let judged = prints Done (public_line (lms_type height) None (ots_type width) read.text) in
     let deed : Deed plan.journals = record { answer = judged; does = tt } in
     let eq : deed ≡ passed.say passed.founds = same_work passed.say (λ none. deed)
     passed.founds (works passed.say) refl
@@ -359,12 +407,12 @@ keyed_so h files height width file status text meets =
     }
 
 pub begun_so : BegunTextsAreOfSecrets
-begun_so h files journal id log_id height width file status text meets =
-    let plan = init_cosigner_plan h journal id log_id height width file in
+begun_so h files journal id log_id top low width file status text meets =
+    let plan = init_cosigner_plan h journal id log_id top low width file in
     let passed = heard_passed (party_kinds h) plan files status text meets in
     let read = passed.read.0 in
-    let s = cosigner_settings_of id log_id height width in
-    let line = public_line s.lms s.ots read.text in
+    let s = cosigner_settings_of id log_id top low width in
+    let line = public_line s.lms s.low s.ots read.text in
     let deed : Deed plan.journals = deed_new (cosigner_record s read.text) (prints Done line) in
     let eq : deed ≡ passed.say passed.founds = same_work passed.say (λ none. deed)
     passed.founds (works passed.say) refl

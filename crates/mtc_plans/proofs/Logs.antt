@@ -15,6 +15,7 @@ use Rattle.mtc_authority.specs.CertOutcome.{signatures_in}
 use Rattle.mtc_authority.specs.IssueCommand.{issue_outcome}
 use Rattle.mtc_authority.specs.ListCommands.{certs_outcome, issue_list_outcome}
 use Rattle.mtc_authority.specs.LogOutcomes.{init_log_outcome}
+use Rattle.mtc_authority.specs.TileOutcome.{rebuilt_outcome}
 use Rattle.mtc_authority.specs.Works.{log_outcome, log_says, tested_says}
 use Rattle.mtc_authority.specs.Works.{unless_missing}
 use Rattle.mtc_authority.specs.declared.work.Work.{Work}
@@ -23,12 +24,12 @@ use Rattle.command_plans.specs.Outcomes.{outcome_of, step_outcome, unless_lackin
 use Rattle.command_plans.specs.Plans.{Beside, Input, only_reads}
 use Rattle.command_plans.proofs.Forms.{bytes_same, form_same}
 use Rattle.mtc_plans.specs.LogPlans.{cert_plan, certs_plan, init_log_plan, issue_list_plan}
-use Rattle.mtc_plans.specs.LogPlans.{issue_plan, opens_log, work_plan, work_step}
+use Rattle.mtc_plans.specs.LogPlans.{issue_plan, opens_log, rebuild_plan, work_plan, work_step}
 use Rattle.mtc_plans.specs.LogWork.{work_reported}
 use Rattle.mtc_plans.specs.PartyKinds.{log, missing_text, party_kinds}
 use Rattle.mtc_plans.specs.Steps.{small_file}
 use Rattle.mtc_plans.proofs.Texts.{first_read, reported_on}
-use Rattle.mtc_plans.proofs.Working.{work_same}
+use Rattle.mtc_plans.proofs.Working.{rebuilt_same, work_same}
 
 missing_same : (journal : List ℕ) (tile : Option (ℕ × ℕ)) (one other : Outcome) → one ≡ other
     → unless_missing journal tile one
@@ -60,6 +61,12 @@ module _ (h : HashFunction) (files : Files) where
       → log_outcome h journal (files journal) (files (tiles_name journal)) work
       ≡ outcome_of (work_plan h beside journal work) files
   work_plans beside journal work = opened_same h files [] beside journal work
+
+  pub rebuild_plans : (journal : List ℕ)
+      → rebuilt_outcome h journal files ≡ outcome_of (rebuild_plan h journal) files
+  unfolding rebuilt_outcome
+  rebuild_plans journal = λ i. with_file journal (files journal) (λ bytes.
+      with_form log_open_text journal (log_read h bytes) (λ found. rebuilt_same found i))
 
   pub init_log_plans : (journal id : List ℕ) (active limit : ℕ)
       → init_log_outcome journal id active limit files

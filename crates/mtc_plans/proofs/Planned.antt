@@ -4,10 +4,11 @@ use Rattle.byte_formats.specs.Types.{HashFunction}
 use Rattle.mtc_words.specs.Commands.{CommandValue, member, show, verify, init_log, issue}
 use Rattle.mtc_words.specs.Commands.{checkpoint, entries, entries_from, consist, subtree}
 use Rattle.mtc_words.specs.Commands.{keygen}
-use Rattle.mtc_words.specs.Commands.{init_cosigner, advance, cosign, export, landmark, landmarks}
+use Rattle.mtc_words.specs.Commands.{init_cosigner, advance, child, cosign, export, landmark}
+use Rattle.mtc_words.specs.Commands.{landmarks}
 use Rattle.mtc_words.specs.Commands.{light_cert, trust_landmarks, cert, audit, drill, tile}
 use Rattle.mtc_words.specs.Commands.{certs, issue_list, light_certs}
-use Rattle.mtc_words.specs.Commands.{switch}
+use Rattle.mtc_words.specs.Commands.{switch, tile_anew}
 use Rattle.mtc_words.specs.Commands.{quarrel, root, held, monitor_init, monitor}
 use Rattle.mtc_words.specs.Commands.{help, version}
 use Rattle.mtc_command.specs.Steps.{Files}
@@ -21,10 +22,10 @@ use Rattle.mtc_plans.specs.Cited.{command_outcome}
 use Rattle.mtc_plans.specs.Commands.{planned_outcome}
 use Rattle.mtc_plans.specs.PartyKinds.{party_kinds}
 use Rattle.mtc_plans.proofs.Auditing.{audit_plans, quarrel_plans}
-use Rattle.mtc_plans.proofs.Cosigners.{advance_plans, cosign_plans, export_plans}
+use Rattle.mtc_plans.proofs.Cosigners.{advance_plans, child_plans, cosign_plans, export_plans}
 use Rattle.mtc_plans.proofs.Cosigners.{init_cosigner_plans}
 use Rattle.mtc_plans.proofs.Logs.{cert_plans, certs_plans, init_log_plans, issue_list_plans}
-use Rattle.mtc_plans.proofs.Logs.{issue_plans, work_plans}
+use Rattle.mtc_plans.proofs.Logs.{issue_plans, rebuild_plans, work_plans}
 use Rattle.mtc_plans.proofs.Reading.{drill_plans, keygen_plans, member_plans, show_plans}
 use Rattle.mtc_plans.proofs.Reading.{trust_plans, verify_plans}
 use Rattle.mtc_plans.proofs.Watching.{held_plans, monitor_init_plans, monitor_plans, root_plans}
@@ -50,9 +51,10 @@ module _ (h : HashFunction) where
       work_plans h files only_reads journal (Subtree start end size)
   outcome_planned (keygen height width file) files =
       keygen_plans (party_kinds h) h height width file files
-  outcome_planned (init_cosigner journal id log_id height width file) files =
-      init_cosigner_plans h files journal id log_id height width file
+  outcome_planned (init_cosigner journal id log_id top low width file) files =
+      init_cosigner_plans h files journal id log_id top low width file
   outcome_planned (advance journal request) files = advance_plans h files journal request
+  outcome_planned (child journal) files = child_plans h files journal
   outcome_planned (cosign journal request) files = cosign_plans h files journal request
   outcome_planned (export journal) files = export_plans h files journal
   outcome_planned (landmark journal) files = work_plans h files only_reads journal Landmark
@@ -68,6 +70,7 @@ module _ (h : HashFunction) where
   outcome_planned (quarrel kept) files = quarrel_plans (party_kinds h) h kept files
   outcome_planned (drill number) files = drill_plans (party_kinds h) h number files
   outcome_planned (tile journal) files = work_plans h files changes journal Tile
+  outcome_planned (tile_anew journal) files = rebuild_plans h files journal
   outcome_planned (switch journal) files = work_plans h files only_reads journal Switch
   outcome_planned (issue_list journal requests) files =
       issue_list_plans h files journal requests

@@ -1,6 +1,6 @@
 -- What the commands without a journal have to answer is what comes of their plans.
 use Rattle.std.proofs.Common.{◌≡◌, ℕ, pos, Bool, true, false, nat_lt, List, [], ◌∷◌, ◌++◌, length}
-use Rattle.std.proofs.Common.{Result, Ok, Err, codes, refl}
+use Rattle.std.proofs.Common.{None, Result, Ok, Err, codes, refl}
 use Rattle.std.specs.Fmt.{decimal}
 use Rattle.byte_formats.specs.Types.{HashFunction}
 use Rattle.cert_fields.specs.Certificate.{parts_of}
@@ -21,20 +21,23 @@ use Rattle.entry_list.specs.Reasons.{items_fault_text}
 use Rattle.landmarks.specs.Reasons.{list_fault_text}
 use Rattle.policy_core.specs.Reasons.{store_fault_text}
 use Rattle.tls_wire.specs.Reasons.{hashes_fault_text}
-use Rattle.mtc_relying.specs.TrustOutcome.{trust_outcome, trust_says}
+use Rattle.mtc_relying.specs.TrustOutcome.{trust_outcome, trust_says, trust_text}
 use Rattle.mtc_relying.specs.Member.{member_file, member_judgement}
 use Rattle.mtc_relying.specs.MemberOutcome.{judgement_says, member_outcome, member_says}
-use Rattle.mtc_relying.specs.ShowOutcome.{show_outcome, show_says}
+use Rattle.mtc_relying.specs.ShowOutcome.{show_outcome, show_says, show_text}
 use Rattle.mtc_relying.specs.VerifyOutcome.{verdict_says, verify_outcome, verify_says}
 use Rattle.command_plans.specs.Kinds.{Kinds}
 use Rattle.command_plans.specs.Outcomes.{outcome_of, step_outcome}
 use Rattle.command_plans.specs.Plans.{Input, Journal, Read, Step, misreads}
 use Rattle.command_plans.proofs.Forms.{bytes_same, form_same, test_same}
-use Rattle.mtc_plans.specs.ReadPlans.{drill_plan, keygen_plan, keygen_step, member_judged}
-use Rattle.mtc_plans.specs.ReadPlans.{member_plan, member_step, show_plan, show_step, trust_plan}
-use Rattle.mtc_plans.specs.ReadPlans.{trust_step, verdict_step, verify_plan, verify_step}
-use Rattle.mtc_plans.specs.Steps.{entries_file, in_secret, small_file}
+use Rattle.mtc_plans.specs.ReadPlans.{drill_plan, keygen_plan, member_judged}
+use Rattle.mtc_plans.specs.ReadPlans.{member_plan, show_plan, trust_plan}
+use Rattle.mtc_plans.specs.ReadPlans.{verdict_step, verify_plan}
+use Rattle.mtc_plans.specs.Steps.{in_secret, list_file, small_file}
 use Rattle.mtc_plans.proofs.Texts.{first_read, second_read, reported_alone}
+use Rattle.mtc_cosigner.specs.KeygenOutcome.{lms_type, ots_type, public_line}
+use Rattle.mtc_command.specs.declared.answer.Said.TheVariants.{Done}
+use Rattle.command_plans.specs.Plans.{in_form, only_prints, prints}
 
 judged_same : (index : ℕ) (r : Result Bool EvalError)
     → judgement_says index r ≡ reported_alone (member_judged index r)
@@ -58,12 +61,14 @@ secret_same k files inputs journals secret one next same =
 
 module _ (k : Kinds) (h : HashFunction) (files : Files) (inputs : List Input) where
   member_same : (m : Read inputs) → member_says h m.file.name m.text
-      ≡ step_outcome {k = k} [] (member_step h m) files
+      ≡ step_outcome {k = k} [] (in_form m hashes_fault_text (member_file m.text)
+      (λ p. only_prints (member_judged p.index (member_judgement h p)))) files
   member_same m = form_same [] files m hashes_fault_text (member_file m.text) _ _
       (λ p. judged_same p.index (member_judgement h p))
 
   show_same : (c : Read inputs) → show_says c.file.name c.text
-      ≡ step_outcome {k = k} [] (show_step c) files
+      ≡ step_outcome {k = k} [] (in_form c cert_fault_text (parts_of c.text)
+      (λ p. only_prints (prints Done (show_text p)))) files
   show_same c = form_same [] files c cert_fault_text (parts_of c.text) _ _ (λ p. refl)
 
   pub verdict_same : (c : Read inputs) (r : Result Accepted Refusal)
@@ -75,20 +80,25 @@ module _ (k : Kinds) (h : HashFunction) (files : Files) (inputs : List Input) wh
 
   verify_same : (unix_time : ℕ) (c s : Read inputs)
       → verify_says h c.file.name s.file.name unix_time c.text s.text
-      ≡ step_outcome {k = k} [] (verify_step h unix_time c s) files
+      ≡ step_outcome {k = k} [] (in_form s store_fault_text (store_of s.text)
+      (λ trusted. verdict_step c (judgement h c.text trusted (pos unix_time)))) files
   verify_same unix_time c s = form_same [] files s store_fault_text (store_of s.text) _ _
       (λ trusted. verdict_same c (judgement h c.text trusted (pos unix_time)))
 
   trust_same : (most : ℕ) (l e : Read inputs)
       → trust_says h l.file.name most e.file.name l.text e.text
-      ≡ step_outcome {k = k} [] (trust_step h most l e) files
+      ≡ step_outcome {k = k} [] (in_form e items_fault_text (items_in h e.text)
+      (λ items. in_form l list_fault_text (list_of l.text most (length items.entries))
+      (λ marks. only_prints (prints Done (trust_text h items.entries marks))))) files
   trust_same most l e = form_same [] files e items_fault_text (items_in h e.text) _ _
       (λ items. form_same [] files l list_fault_text (list_of l.text most (length items.entries))
       _ _ (λ list. refl))
 
   keygen_same : (height width : ℕ) (s : Read inputs)
       → keygen_says height width s.file.name s.text
-      ≡ step_outcome {k = k} [] (keygen_step height width s) files
+      ≡ step_outcome {k = k} [] (in_secret s
+      (only_prints (prints Done (public_line (lms_type height) None (ots_type width) s.text))))
+      files
   keygen_same height width s = secret_same k files inputs [] s _ _ refl
 
 module _ (k : Kinds) (h : HashFunction) where
@@ -122,7 +132,7 @@ module _ (k : Kinds) (h : HashFunction) where
       ≡ outcome_of (trust_plan {k = k} h list most entries) files
   trust_plans list most entries files =
       let one = small_file list in
-      let two = entries_file entries in
+      let two = list_file entries in
       bytes_same 16777216 list (files list) _ _
       (λ b. bytes_same 8589934592 entries (files entries) _ _
       (λ t. trust_same k h files (one ∷ (two ∷ [])) most (first_read one (two ∷ []) b)

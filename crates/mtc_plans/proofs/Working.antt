@@ -1,10 +1,10 @@
 -- What a command has to reply over a log that was found is what its plan prints.
-use Rattle.std.proofs.Common.{◌≡◌, ℕ, false, nat_le, nat_lt, not, List, length, Option, None}
+use Rattle.std.proofs.Common.{◌≡◌, ◌==◌, ℕ, false, nat_le, nat_lt, not, List, length, Option, None}
 use Rattle.std.proofs.Common.{Some, refl}
 use Rattle.byte_formats.specs.Types.{HashFunction, Text}
 use Rattle.journal_core.specs.Format.{end_offset}
 use Rattle.authority_core.specs.Certificates.{cert_refusal, covering_in, light_refusal}
-use Rattle.authority_core.specs.Issues.{issued_entry, issued_items}
+use Rattle.authority_core.specs.Issues.{issued_batch, issued_entry, issued_items, issued_record}
 use Rattle.authority_core.specs.Requests.{RequestParts}
 use Rattle.authority_core.specs.Several.{certs_refusal, light_certs_refusal}
 use Rattle.authority_core.specs.declared.writing.error.SeveralError.{SeveralError}
@@ -13,7 +13,8 @@ use Rattle.authority_core.specs.declared.writing.error.WriteError.{WriteError}
 use Rattle.authority_core.specs.declared.writing.error.WriteError.TheVariants as write_error
 use Rattle.issuance_log.specs.Folds.{LogState, view_in}
 use Rattle.issuance_log.specs.Openings.{FoundLog}
-use Rattle.issuance_log.specs.Refusals.{add_refusal, batch_refusal, mark_refusal}
+use Rattle.issuance_log.specs.Records.{landmark_record, switch_record, tiles_record}
+use Rattle.issuance_log.specs.Refusals.{add_refusal, batch_refusal, mark_refusal, full_size}
 use Rattle.issuance_log.specs.Refusals.{switch_refusal, tile_refusal}
 use Rattle.issuance_log.specs.declared.error.LogError.{LogError}
 use Rattle.issuance_log.specs.declared.error.LogError.TheVariants as log_error
@@ -21,14 +22,16 @@ use Rattle.tree_core.specs.Subtree.{is_subtree}
 use Rattle.mtc_command.specs.Wanted.{exactly}
 use Rattle.mtc_authority.specs.CertOutcome.{cert_refused, cert_replies, certificate_in}
 use Rattle.mtc_authority.specs.CertOutcome.{light_text}
-use Rattle.mtc_authority.specs.IssueOutcome.{issued}
-use Rattle.mtc_authority.specs.LandmarkOutcomes.{mark_refused, marked}
-use Rattle.mtc_authority.specs.ListOutcomes.{certs_text, light_certs_text, list_issued_by}
+use Rattle.mtc_authority.specs.IssueOutcome.{issued, issued_text}
+use Rattle.mtc_authority.specs.LandmarkOutcomes.{mark_refused, marked, next_line}
+use Rattle.mtc_authority.specs.ListOutcomes.{certs_text, issued_lines, light_certs_text}
+use Rattle.mtc_authority.specs.ListOutcomes.{list_issued_by}
 use Rattle.mtc_authority.specs.ListOutcomes.{several_refused, several_replies}
 use Rattle.mtc_authority.specs.LogOutcomes.{entries_from_reply, entries_reply}
 use Rattle.mtc_authority.specs.RequestOutcomes.{consist_reply, subtree_reply}
-use Rattle.mtc_authority.specs.SwitchOutcome.{switch_refused, switched_by}
-use Rattle.mtc_authority.specs.TileOutcome.{tiled_by, tiles_refused}
+use Rattle.mtc_authority.specs.SwitchOutcome.{switch_refused, switched_by, switched_line}
+use Rattle.mtc_authority.specs.TileOutcome.{rebuilt_reply, rebuilt_says, tiled_by, tiled_line}
+use Rattle.mtc_authority.specs.TileOutcome.{tiles_refused}
 use Rattle.mtc_authority.specs.Works.{log_says}
 use Rattle.mtc_authority.specs.declared.work.Work.{Work}
 use Rattle.mtc_authority.specs.declared.work.Work.TheVariants.{Cert, Checkpoint, Consist, Entries}
@@ -37,12 +40,10 @@ use Rattle.mtc_authority.specs.declared.work.Work.TheVariants.{Issue, Landmark, 
 use Rattle.mtc_authority.specs.declared.work.Work.TheVariants.{LightCert, Subtree, Switch, Tile}
 use Rattle.mtc_authority.specs.declared.work.Work.TheVariants.{Certs, IssueList, LightCerts}
 use Rattle.command_plans.specs.Outcomes.{wanted_of}
-use Rattle.mtc_plans.specs.LogWork.{cert_judged, certs_judged, consist_judged}
-use Rattle.mtc_plans.specs.LogWork.{entries_from_judged, entries_judged, issue_reported}
-use Rattle.mtc_plans.specs.LogWork.{list_reported, log_judged, mark_reported, several_judged}
-use Rattle.mtc_plans.specs.LogWork.{subtree_judged}
-use Rattle.mtc_plans.specs.LogWork.{switch_judged, switch_reported, tile_reported}
-use Rattle.mtc_plans.specs.LogWork.{work_reported, write_judged}
+use Rattle.mtc_plans.specs.LogWork.{rebuilt_judged, consist_judged, entries_from_judged}
+use Rattle.mtc_plans.specs.LogWork.{entries_judged, entry_judged, log_judged, several_judged}
+use Rattle.mtc_plans.specs.LogWork.{subtree_judged, switch_judged, work_reported, write_judged}
+use Rattle.mtc_plans.specs.Steps.{added_by, prints_unless}
 use Rattle.mtc_plans.proofs.Texts.{either_same, on_list, reported_on}
 
 write_same : (why : WriteError) → exactly (cert_refused why) ≡ wanted_of (write_judged why)
@@ -58,7 +59,7 @@ write_same write_error.TilesFailed = refl
 write_same write_error.Memory = refl
 
 cert_same : (why : Option WriteError) (text : List ℕ)
-    → exactly (cert_replies why text) ≡ wanted_of (cert_judged why text)
+    → exactly (cert_replies why text) ≡ wanted_of (prints_unless write_judged why text)
 cert_same None text = refl
 cert_same (Some why) text = write_same why
 
@@ -74,6 +75,12 @@ switch_same : (why : LogError) → exactly (switch_refused why) ≡ wanted_of (s
 switch_same (log_error.AlreadySwitched index) = refl
 switch_same why = refl
 
+pub rebuilt_same : (found : FoundLog) → rebuilt_says found
+    ≡ reported_on found.records (rebuilt_judged found.state.tiled, None)
+rebuilt_same found = on_list found.records (rebuilt_reply found.state.tiled)
+    (rebuilt_judged found.state.tiled)
+    (either_same (found.state.tiled == 0) _ _ _ _ refl refl)
+
 -- The text of one that has too many signatures is the same by computation; if it isn't, codes and
 -- decimal are joined by append_assoc.
 several_same : (why : SeveralError) → exactly (several_refused why) ≡ wanted_of (several_judged why)
@@ -81,7 +88,7 @@ several_same (several.OfEntry write_error.TooManySignatures index) = refl
 several_same why = refl
 
 certs_same : (why : Option SeveralError) (text : Text)
-    → exactly (several_replies why text) ≡ wanted_of (certs_judged why text)
+    → exactly (several_replies why text) ≡ wanted_of (prints_unless several_judged why text)
 certs_same None text = refl
 certs_same (Some why) text = several_same why
 
@@ -108,32 +115,39 @@ module _ (h : HashFunction) where
 
   issued_same : (r : RequestParts) (found : FoundLog) (why : Option LogError)
       → issued h r found why
-      ≡ reported_on found.records (issue_reported h r (view_in found.state) why)
+      ≡ reported_on found.records (added_by entry_judged
+      (issued_record h (view_in found.state) r) (issued_text (view_in found.state).size) why)
   issued_same r found None = refl
   issued_same r found (Some why) = refl
 
   list_issued_same : (rs : List RequestParts) (found : FoundLog) (why : Option LogError)
       → list_issued_by h rs (view_in found.state) found.records why
-      ≡ reported_on found.records (list_reported h rs (view_in found.state) why)
+      ≡ reported_on found.records (added_by entry_judged
+      (issued_batch h (view_in found.state) rs)
+      (issued_lines (view_in found.state).size (length rs)) why)
   list_issued_same rs found None = refl
   list_issued_same rs found (Some why) = refl
 
   marked_same : (found : FoundLog) (why : Option LogError)
-      → marked found why ≡ reported_on found.records (mark_reported (view_in found.state) why)
+      → marked found why ≡ reported_on found.records (added_by log_judged
+      (landmark_record (view_in found.state).size) (next_line (view_in found.state)) why)
   marked_same found None = refl
   marked_same found (Some why) = on_list found.records (mark_refused why) (log_judged why)
       (mark_same why)
 
   tiled_same : (found : FoundLog) (why : Option LogError)
       → tiled_by (view_in found.state) found.records why
-      ≡ reported_on found.records (tile_reported (view_in found.state) why)
+      ≡ reported_on found.records (added_by log_judged
+      (tiles_record (full_size (view_in found.state)))
+      (tiled_line (full_size (view_in found.state))) why)
   tiled_same found None = refl
   tiled_same found (Some why) = on_list found.records (tiles_refused why) (log_judged why)
       (tiles_same why)
 
   switched_same : (found : FoundLog) (why : Option LogError)
       → switched_by (view_in found.state) found.records why
-      ≡ reported_on found.records (switch_reported (view_in found.state) why)
+      ≡ reported_on found.records (added_by switch_judged
+      (switch_record (view_in found.state).size) (switched_line (view_in found.state).size) why)
   switched_same found None = refl
   switched_same found (Some why) = on_list found.records (switch_refused why) (switch_judged why)
       (switch_same why)
@@ -161,24 +175,26 @@ module _ (h : HashFunction) where
   work_same (LightCert index) found =
       let why = light_refusal (view_in found.state) index in
       let text = light_text h index found.state (covering_in (view_in found.state) index) in
-      on_list found.records (cert_replies why text) (cert_judged why text) (cert_same why text)
+      on_list found.records (cert_replies why text) (prints_unless write_judged why text)
+      (cert_same why text)
   work_same (Cert index start end signatures) found =
       let why = cert_refusal (view_in found.state) index start end signatures in
       let text = certificate_in h index start end signatures found.state in
-      on_list found.records (cert_replies why text) (cert_judged why text) (cert_same why text)
+      on_list found.records (cert_replies why text) (prints_unless write_judged why text)
+      (cert_same why text)
   work_same (IssueList requests) found = list_issued_same requests found
       (batch_refusal (view_in found.state) false (end_offset found.records)
       (issued_items h (view_in found.state) requests))
   work_same (LightCerts first last) found =
       let why = light_certs_refusal (view_in found.state) first last in
       let text = light_certs_text h first last found.state in
-      on_list found.records (several_replies why text) (certs_judged why text)
-      (certs_same why text)
+      on_list found.records (several_replies why text)
+      (prints_unless several_judged why text) (certs_same why text)
   work_same (Certs first last start end signatures) found =
       let why = certs_refusal (view_in found.state) first last start end signatures in
       let text = certs_text h first last start end signatures found.state in
-      on_list found.records (several_replies why text) (certs_judged why text)
-      (certs_same why text)
+      on_list found.records (several_replies why text)
+      (prints_unless several_judged why text) (certs_same why text)
   work_same Switch found =
       switched_same found (switch_refusal (view_in found.state) false (end_offset found.records))
   work_same Tile found =

@@ -25,7 +25,7 @@ use Rattle.command_plans.specs.Kinds.{Kinds}
 use Rattle.command_plans.specs.Plans.{Input, Judged, Plan, Read, Step, in_form, only_prints}
 use Rattle.command_plans.specs.Plans.{prints, prints_pair}
 use Rattle.mtc_plans.specs.ReadPlans.{verdict_step}
-use Rattle.mtc_plans.specs.Steps.{entries_file, large_file, small_file}
+use Rattle.mtc_plans.specs.Steps.{list_file, small_file}
 
 -- The hash that is wanted of the list and the one that it has, where they aren't the same; or else
 -- that no export supports the acceptance; or that the entry and the key stand at the index; or any
@@ -38,32 +38,24 @@ audit_judged_by h x None true true = prints Done (stands_text x.accepted.index)
 audit_judged_by h x None true false =
     prints_pair Collided h collision_text (firsts_of h x) (seconds_of h x)
 
-abbrev pub audit_judged : HashFunction → AuditCase → Judged
-audit_judged h x =
-    audit_judged_by h x (foreign_of h x) (is_supported x)
-    (has_own h x.store x.items x.accepted x.cert)
-
 -- A refused certificate is answered as by `verify`.
 abbrev pub audited_step : {k : Kinds} {inputs : List Input} → HashFunction → Read inputs → Store
     → ItemLists → Option Export → Result AcceptedParts Refusal → Step {k = k} inputs []
 audited_step h cert store items kept (Ok j) =
-    only_prints (audit_judged h (case_of store items kept j))
+    (let x = case_of store items kept j in only_prints (audit_judged_by h x (foreign_of h x)
+    (is_supported x) (has_own h x.store x.items x.accepted x.cert)))
 audited_step h cert store items kept (Err why) = verdict_step cert (Err why)
 
 -- The store, the entries and the export are read, and then the certificate is judged.
-abbrev pub audit_step : {k : Kinds} {inputs : List Input} → HashFunction → ℕ → Read inputs
-    → Read inputs → Read inputs → Read inputs → Step {k = k} inputs []
-audit_step h unix_time cert store entries export =
-    in_form store store_fault_text (store_of store.text) (λ s.
-    in_form entries items_fault_text (items_in h entries.text) (λ items.
-    in_form export export_fault_text (export_in h export.text) (λ kept.
-    audited_step h cert s items kept (accepted_in h cert.text s (pos unix_time)))))
-
 abbrev pub audit_plan : {k : Kinds} → HashFunction → Text → Text → ℕ → Text → Text → Plan k
 audit_plan h cert store unix_time entries export = record {
-  inputs = small_file cert ∷ (small_file store ∷ (entries_file entries ∷ (large_file export ∷ [])));
+  inputs = small_file cert ∷ (small_file store ∷ (list_file entries ∷ (list_file export ∷ [])));
   journals = [];
-  steps = λ (c, (s, (e, (x, none)))). audit_step h unix_time c s e x;
+  steps = λ (c, (s, (e, (x, none)))).
+      in_form s store_fault_text (store_of s.text) (λ trusted.
+      in_form e items_fault_text (items_in h e.text) (λ items.
+      in_form x export_fault_text (export_in h x.text) (λ kept.
+      audited_step h c trusted items kept (accepted_in h c.text trusted (pos unix_time)))));
 }
 
 -- ---- quarrel EXPORT
@@ -80,14 +72,10 @@ abbrev pub quarrel_judged : HashFunction → Option Export → Judged
 quarrel_judged h None = prints Done agree_text
 quarrel_judged h (Some kept) = quarrel_judged_by h kept.steps (quarrel_of kept.steps)
 
-abbrev pub quarrel_step : {k : Kinds} {inputs : List Input} → HashFunction → Read inputs
-    → Step {k = k} inputs []
-quarrel_step h export = in_form export export_fault_text (export_in h export.text) (λ kept.
-    only_prints (quarrel_judged h kept))
-
 abbrev pub quarrel_plan : {k : Kinds} → HashFunction → Text → Plan k
 quarrel_plan h export = record {
-  inputs = large_file export ∷ [];
+  inputs = list_file export ∷ [];
   journals = [];
-  steps = λ (x, none). quarrel_step h x;
+  steps = λ (x, none). in_form x export_fault_text (export_in h x.text)
+      (λ kept. only_prints (quarrel_judged h kept));
 }

@@ -4,17 +4,19 @@ use Rattle.byte_formats.specs.Types.{HashFunction, Text}
 use Rattle.mtc_words.specs.Commands.{CommandValue, member, show, verify, init_log, issue}
 use Rattle.mtc_words.specs.Commands.{checkpoint, entries, entries_from, consist, subtree}
 use Rattle.mtc_words.specs.Commands.{keygen}
-use Rattle.mtc_words.specs.Commands.{init_cosigner, advance, cosign, export, landmark, landmarks}
+use Rattle.mtc_words.specs.Commands.{init_cosigner, advance, child, cosign, export, landmark}
+use Rattle.mtc_words.specs.Commands.{landmarks}
 use Rattle.mtc_words.specs.Commands.{light_cert, trust_landmarks, cert, audit, drill, tile}
 use Rattle.mtc_words.specs.Commands.{certs, issue_list, light_certs}
-use Rattle.mtc_words.specs.Commands.{switch}
+use Rattle.mtc_words.specs.Commands.{switch, tile_anew}
 use Rattle.mtc_words.specs.Commands.{quarrel, root, held, monitor_init, monitor}
 use Rattle.mtc_words.specs.Commands.{help, version}
 use Rattle.mtc_command.specs.Answers.{tiles_name}
 use Rattle.mtc_command.specs.Steps.{Files, Outcome}
 use Rattle.mtc_cosigner.specs.InitOutcome.{init_cosigner_outcome}
 use Rattle.mtc_cosigner.specs.KeygenOutcome.{keygen_outcome}
-use Rattle.mtc_cosigner.specs.Works.{advance_outcome, cosign_outcome, export_outcome}
+use Rattle.mtc_cosigner.specs.Works.{advance_outcome, child_outcome, cosign_outcome}
+use Rattle.mtc_cosigner.specs.Works.{export_outcome}
 use Rattle.mtc_drill.specs.Summary.{drill_outcome}
 use Rattle.mtc_help.specs.HelpOutcome.{help_outcome, version_outcome}
 use Rattle.mtc_authority.specs.CertCommand.{cert_outcome}
@@ -28,6 +30,7 @@ use Rattle.mtc_authority.specs.declared.work.Work.TheVariants.{Subtree, Switch}
 use Rattle.mtc_authority.specs.declared.work.Work.TheVariants.{Landmark, Landmarks, LightCert, Tile}
 use Rattle.mtc_authority.specs.declared.work.Work.TheVariants.{LightCerts}
 use Rattle.mtc_authority.specs.ListCommands.{certs_outcome, issue_list_outcome}
+use Rattle.mtc_authority.specs.TileOutcome.{rebuilt_outcome}
 use Rattle.mtc_relying.specs.AuditOutcome.{audit_outcome}
 use Rattle.mtc_relying.specs.QuarrelOutcome.{quarrel_outcome}
 use Rattle.mtc_relying.specs.TrustOutcome.{trust_outcome}
@@ -59,9 +62,10 @@ command_outcome h (consist journal old new) = outcome_on_log h journal (Consist 
 command_outcome h (subtree journal start end size) =
     outcome_on_log h journal (Subtree start end size)
 command_outcome h (keygen height width file) = keygen_outcome height width file
-command_outcome h (init_cosigner journal id log height width file) =
-    init_cosigner_outcome journal id log height width file
+command_outcome h (init_cosigner journal id log top low width file) =
+    init_cosigner_outcome journal id log top low width file
 command_outcome h (advance journal request) = advance_outcome h journal request
+command_outcome h (child journal) = child_outcome h journal
 command_outcome h (cosign journal request) = cosign_outcome h journal request
 command_outcome h (export journal) = export_outcome h journal
 command_outcome h (landmark journal) = outcome_on_log h journal Landmark
@@ -74,6 +78,7 @@ command_outcome h (audit certificate store unix_time items kept) =
 command_outcome h (quarrel kept) = quarrel_outcome h kept
 command_outcome h (drill number) = λ files. drill_outcome number
 command_outcome h (tile journal) = outcome_on_log h journal Tile
+command_outcome h (tile_anew journal) = rebuilt_outcome h journal
 command_outcome h (switch journal) = outcome_on_log h journal Switch
 command_outcome h (issue_list journal requests) = issue_list_outcome h journal requests
 command_outcome h (light_certs journal first last) =

@@ -3,10 +3,11 @@ use Rattle.byte_formats.specs.Types.{HashFunction}
 use Rattle.mtc_words.specs.Commands.{CommandValue, member, show, verify, init_log, issue}
 use Rattle.mtc_words.specs.Commands.{checkpoint, entries, entries_from, consist, subtree}
 use Rattle.mtc_words.specs.Commands.{keygen}
-use Rattle.mtc_words.specs.Commands.{init_cosigner, advance, cosign, export, landmark, landmarks}
+use Rattle.mtc_words.specs.Commands.{init_cosigner, advance, child, cosign, export, landmark}
+use Rattle.mtc_words.specs.Commands.{landmarks}
 use Rattle.mtc_words.specs.Commands.{light_cert, trust_landmarks, cert, audit, drill, tile}
 use Rattle.mtc_words.specs.Commands.{certs, issue_list, light_certs}
-use Rattle.mtc_words.specs.Commands.{switch}
+use Rattle.mtc_words.specs.Commands.{switch, tile_anew}
 use Rattle.mtc_words.specs.Commands.{quarrel, root, held, monitor_init, monitor}
 use Rattle.mtc_words.specs.Commands.{help, version}
 use Rattle.mtc_command.specs.Steps.{Files, Outcome}
@@ -18,11 +19,11 @@ use Rattle.mtc_authority.specs.declared.work.Work.TheVariants.{Subtree, Switch, 
 use Rattle.command_plans.specs.Outcomes.{outcome_of}
 use Rattle.command_plans.specs.Plans.{Plan, changes, only_reads}
 use Rattle.mtc_plans.specs.AuditPlans.{audit_plan, quarrel_plan}
-use Rattle.mtc_plans.specs.CosignerPlans.{advance_plan, cosign_plan, export_plan}
+use Rattle.mtc_plans.specs.CosignerPlans.{advance_plan, child_plan, cosign_plan, export_plan}
 use Rattle.mtc_plans.specs.CosignerPlans.{init_cosigner_plan}
 use Rattle.mtc_plans.specs.HelpPlans.{help_plan, version_plan}
 use Rattle.mtc_plans.specs.LogPlans.{cert_plan, certs_plan, init_log_plan, issue_list_plan}
-use Rattle.mtc_plans.specs.LogPlans.{issue_plan, work_plan}
+use Rattle.mtc_plans.specs.LogPlans.{issue_plan, rebuild_plan, work_plan}
 use Rattle.mtc_plans.specs.PartyKinds.{party_kinds}
 use Rattle.mtc_plans.specs.ReadPlans.{drill_plan, keygen_plan, member_plan, show_plan}
 use Rattle.mtc_plans.specs.ReadPlans.{trust_plan, verify_plan}
@@ -43,9 +44,10 @@ plan_of h (consist journal old new) = work_plan h only_reads journal (Consist ol
 plan_of h (subtree journal start end size) =
     work_plan h only_reads journal (Subtree start end size)
 plan_of h (keygen height width file) = keygen_plan height width file
-plan_of h (init_cosigner journal id log height width file) =
-    init_cosigner_plan h journal id log height width file
+plan_of h (init_cosigner journal id log top low width file) =
+    init_cosigner_plan h journal id log top low width file
 plan_of h (advance journal request) = advance_plan h journal request
+plan_of h (child journal) = child_plan h journal
 plan_of h (cosign journal request) = cosign_plan h journal request
 plan_of h (export journal) = export_plan h journal
 plan_of h (landmark journal) = work_plan h only_reads journal Landmark
@@ -58,6 +60,7 @@ plan_of h (audit certificate store unix_time items kept) =
 plan_of h (quarrel kept) = quarrel_plan h kept
 plan_of h (drill number) = drill_plan number
 plan_of h (tile journal) = work_plan h changes journal Tile
+plan_of h (tile_anew journal) = rebuild_plan h journal
 plan_of h (switch journal) = work_plan h only_reads journal Switch
 plan_of h (issue_list journal requests) = issue_list_plan h journal requests
 plan_of h (light_certs journal first last) =

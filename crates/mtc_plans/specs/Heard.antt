@@ -1,12 +1,14 @@
 -- What of its files and journals follows from the text of a command: of `issue`, `issue-list` and
 -- `switch`, and of those that open a cosigner's journal or are given a secret file.
-use Rattle.std.specs.Prelude.{◌≡◌, ◌≤◌, ℕ, false, List, [], ◌∷◌, length, None, Ok, Some}
+use Rattle.std.specs.Prelude.{◌≡◌, ◌≤◌, ℕ, false, List, [], ◌∷◌, length, Option, None, Ok}
+use Rattle.std.specs.Prelude.{Some, option_map}
 use Rattle.byte_formats.specs.Types.{HashFunction, Text}
 use Rattle.journal_core.specs.Format.{end_offset}
 use Rattle.authority_core.specs.Files.{request_of}
 use Rattle.authority_core.specs.Issues.{issued_batch, issued_entry, issued_items, issued_record}
 use Rattle.authority_core.specs.RequestLists.{requests_of}
 use Rattle.authority_core.specs.Requests.{RequestParts}
+use Rattle.cosigner_core.specs.Children.{child_refused, next_child}
 use Rattle.cosigner_core.specs.Exports.{export_text}
 use Rattle.cosigner_core.specs.Openings.{FoundCosigner, cosigner_read}
 use Rattle.cosigner_core.specs.Reading.{advance_in, subtree_in}
@@ -17,8 +19,8 @@ use Rattle.issuance_log.specs.Folds.{view_in}
 use Rattle.issuance_log.specs.Openings.{FoundLog, log_read}
 use Rattle.issuance_log.specs.Records.{switch_record}
 use Rattle.issuance_log.specs.Refusals.{add_refusal, batch_refusal, switch_refusal}
-use Rattle.mtc_words.specs.Commands.{advance, cosign, export, init_cosigner, issue, issue_list}
-use Rattle.mtc_words.specs.Commands.{keygen, switch}
+use Rattle.mtc_words.specs.Commands.{advance, child, cosign, export, init_cosigner, issue}
+use Rattle.mtc_words.specs.Commands.{issue_list, keygen, switch}
 use Rattle.mtc_command.specs.Answers.{Reply, said}
 use Rattle.mtc_command.specs.Made.{appended, reads, started}
 use Rattle.mtc_command.specs.Steps.{Files, Outcome}
@@ -28,7 +30,7 @@ use Rattle.mtc_command.specs.declared.answer.Said.TheVariants.{Done}
 use Rattle.mtc_authority.specs.IssueOutcome.{issued_text}
 use Rattle.mtc_authority.specs.ListOutcomes.{issued_lines}
 use Rattle.mtc_authority.specs.SwitchOutcome.{switched_line}
-use Rattle.mtc_cosigner.specs.CosignerOutcomes.{advanced_text, cosigned_text}
+use Rattle.mtc_cosigner.specs.CosignerOutcomes.{advanced_text, child_line, cosigned_text}
 use Rattle.mtc_cosigner.specs.InitOutcome.{cosigner_settings_of}
 use Rattle.mtc_cosigner.specs.KeygenOutcome.{lms_type, ots_type, public_line}
 use Rattle.mtc_plans.specs.Commands.{planned_outcome}
@@ -159,6 +161,24 @@ abbrev pub CosignedTextsAreOfRecords : Type 0
 CosignedTextsAreOfRecords = (h : HashFunction) (files : Files) (journal file : Text)
     → OfSaid (planned_outcome h (cosign journal file) files) (CosignsSo h files journal file)
 
+-- A cosigner was found that may have a further lower tree, and a Child record is added. The text is
+-- the number of that tree.
+pub record HasChildSo (h : HashFunction) (files : Files) (journal : Text) (reply : Reply)
+    : Type 0 where
+  pub held : Text
+  pub there : files journal ≡ Some held
+  pub found : FoundCosigner
+  pub is_cosigner : cosigner_read h held ≡ Ok found
+  pub fits : child_refused found.state false (end_offset found.records) ≡ None
+  pub did : (planned_outcome h (child journal) files).journals
+      ≡ appended found.records (next_child found.state) ∷ []
+  pub reply_is : reply ≡ said Done (child_line found.state.key.children)
+
+-- So it is of each text that `child` may say.
+abbrev pub ChildTextsAreOfRecords : Type 0
+ChildTextsAreOfRecords = (h : HashFunction) (files : Files) (journal : Text)
+    → OfSaid (planned_outcome h (child journal) files) (HasChildSo h files journal)
+
 -- A cosigner was found, and no record is added. The text is what others may know of it.
 pub record ExportsSo (h : HashFunction) (files : Files) (journal : Text) (reply : Reply)
     : Type 0 where
@@ -176,30 +196,32 @@ ExportedTextsAreOfRecords = (h : HashFunction) (files : Files) (journal : Text)
 
 -- ---- a secret file
 
--- A secret was read. The text is its public key.
-pub record KeysSo (files : Files) (height width : ℕ) (file : Text) (reply : Reply)
-    : Type 0 where
+-- A secret was read. The text is its public key, of one level or of two.
+pub record KeysSo (files : Files) (top : ℕ) (low : Option ℕ) (width : ℕ) (file : Text)
+    (reply : Reply) : Type 0 where
   pub secret : Text
   pub has_secret : HoldsSmall files file secret
-  pub reply_is : reply ≡ said Done (public_line (lms_type height) (ots_type width) secret)
+  pub reply_is : reply
+      ≡ said Done (public_line (lms_type top) (option_map lms_type low) (ots_type width) secret)
 
 -- So it is of each text that `keygen` may say.
 abbrev pub KeyTextsAreOfSecrets : Type 0
 KeyTextsAreOfSecrets = (h : HashFunction) (files : Files) (height width : ℕ) (file : Text)
-    → OfSaid (planned_outcome h (keygen height width file) files) (KeysSo files height width file)
+    → OfSaid (planned_outcome h (keygen height width file) files)
+    (KeysSo files height None width file)
 
 -- The text is the line of a new cosigner. Its journal had no file, and its first record is of the
 -- secret.
 pub record BeginsSo (h : HashFunction) (files : Files) (journal id log_id : Text)
-    (height width : ℕ) (file : Text) (reply : Reply) : Type 0 where
-  pub keys : KeysSo files height width file reply
+    (top : ℕ) (low : Option ℕ) (width : ℕ) (file : Text) (reply : Reply) : Type 0 where
+  pub keys : KeysSo files top low width file reply
   pub fresh : files journal ≡ None
-  pub did : (planned_outcome h (init_cosigner journal id log_id height width file) files).journals
-      ≡ started (cosigner_record (cosigner_settings_of id log_id height width) keys.secret) ∷ []
+  pub did : (planned_outcome h (init_cosigner journal id log_id top low width file) files).journals
+      ≡ started (cosigner_record (cosigner_settings_of id log_id top low width) keys.secret) ∷ []
 
--- So it is of each text that `init-cosigner` may say.
+-- So it is of each text that `init-cosigner` and `init-cosigner2` may say.
 abbrev pub BegunTextsAreOfSecrets : Type 0
 BegunTextsAreOfSecrets = (h : HashFunction) (files : Files) (journal id log_id : Text)
-    (height width : ℕ) (file : Text)
-    → OfSaid (planned_outcome h (init_cosigner journal id log_id height width file) files)
-    (BeginsSo h files journal id log_id height width file)
+    (top : ℕ) (low : Option ℕ) (width : ℕ) (file : Text)
+    → OfSaid (planned_outcome h (init_cosigner journal id log_id top low width file) files)
+    (BeginsSo h files journal id log_id top low width file)

@@ -1,8 +1,8 @@
 -- What a command prints over a log that was found, and which record it adds.
-use Rattle.std.specs.Prelude.{ℕ, ◌-◌, false, nat_le, nat_lt, not, List, length, codes, Option}
-use Rattle.std.specs.Prelude.{None, Some, ◌++◌, if◌then◌else◌}
+use Rattle.std.specs.Prelude.{ℕ, ◌-◌, ◌==◌, false, nat_le, nat_lt, not, length, codes}
+use Rattle.std.specs.Prelude.{None, ◌++◌, if◌then◌else◌}
 use Rattle.std.specs.Fmt.{decimal}
-use Rattle.byte_formats.specs.Types.{HashFunction, Text}
+use Rattle.byte_formats.specs.Types.{HashFunction}
 use Rattle.journal_core.specs.Format.{end_offset}
 use Rattle.authority_core.specs.Certificates.{cert_refusal, covering_in, light_refusal}
 use Rattle.authority_core.specs.Issues.{issued_batch, issued_entry, issued_items, issued_record}
@@ -12,12 +12,11 @@ use Rattle.authority_core.specs.declared.writing.error.SeveralError.{SeveralErro
 use Rattle.authority_core.specs.declared.writing.error.SeveralError.TheVariants as several
 use Rattle.issuance_log.specs.Refusals.{batch_refusal}
 use Rattle.mtc_authority.specs.ListOutcomes.{certs_text, issued_lines, light_certs_text}
-use Rattle.authority_core.specs.Requests.{RequestParts}
 use Rattle.authority_core.specs.declared.writing.error.WriteError.{WriteError}
 use Rattle.authority_core.specs.declared.writing.error.WriteError.TheVariants as write_error
 use Rattle.cosigner_core.specs.Requests.{advance_text, subtree_text}
 use Rattle.entry_list.specs.Items.{file_part, file_text}
-use Rattle.issuance_log.specs.Folds.{LogState, LogView, view_in}
+use Rattle.issuance_log.specs.Folds.{LogState, view_in}
 use Rattle.issuance_log.specs.Openings.{FoundLog}
 use Rattle.issuance_log.specs.Records.{landmark_record, switch_record, tiles_record}
 use Rattle.issuance_log.specs.Refusals.{add_refusal, full_size, mark_refusal, switch_refusal}
@@ -44,13 +43,9 @@ use Rattle.mtc_authority.specs.declared.work.Work.TheVariants.{Issue, Landmark, 
 use Rattle.mtc_authority.specs.declared.work.Work.TheVariants.{LightCert, Subtree, Switch, Tile}
 use Rattle.mtc_authority.specs.declared.work.Work.TheVariants.{Certs, IssueList, LightCerts}
 use Rattle.command_plans.specs.Plans.{Judged, exceeds, forbids, prints}
-use Rattle.mtc_plans.specs.Steps.{StepReport, beyond_size}
+use Rattle.mtc_plans.specs.Steps.{StepReport, added_by, beyond_size, prints_unless}
 
 -- ---- what only reads the log
-
-abbrev pub checkpoint_judged : HashFunction → List Text → Judged
-checkpoint_judged h entries =
-    prints Done (checkpoint_lines (length entries) (tree_hash h entries))
 
 -- So many of the first items, where the log has them.
 abbrev pub entries_judged : ℕ → LogState → Judged
@@ -95,99 +90,84 @@ write_judged write_error.JournalFailed = exceeds (codes "Failed")
 write_judged write_error.TilesFailed = exceeds (codes "Failed")
 write_judged write_error.Memory = exceeds (codes "Memory")
 
-abbrev pub cert_judged : Option WriteError → Text → Judged
-cert_judged None text = prints Done text
-cert_judged (Some why) text = write_judged why
-
 -- Why no certificates of several entries are written.
 abbrev pub several_judged : SeveralError → Judged
 several_judged (several.OfEntry write_error.TooManySignatures index) =
     exceeds (codes "TooManySignatures " ++ decimal index)
 several_judged why = forbids (several_fault_text why)
 
-abbrev pub certs_judged : Option SeveralError → Text → Judged
-certs_judged None text = prints Done text
-certs_judged (Some why) text = several_judged why
+-- The tiles of this size are written again, if the log has recorded some.
+abbrev pub rebuilt_judged : ℕ → Judged
+rebuilt_judged size =
+    if size == 0 then forbids (codes "NothingNew") else prints Done (tiled_line size)
 
 -- ---- what adds a record
 
--- The entry of a request is added with its key, unless the log refuses it.
-abbrev pub issue_reported : HashFunction → RequestParts → LogView → Option LogError → StepReport
-issue_reported h r v None = (prints Done (issued_text v.size), Some (issued_record h v r))
-issue_reported h r v (Some why) = (exceeds (log_fault_text why), None)
-
--- The entries of several requests are added with their keys, unless the log refuses them.
-abbrev pub list_reported : HashFunction → List RequestParts → LogView → Option LogError
-    → StepReport
-list_reported h rs v None =
-    (prints Done (issued_lines v.size (length rs)), Some (issued_batch h v rs))
-list_reported h rs v (Some why) = (exceeds (log_fault_text why), None)
+-- Why a log takes no entry.
+abbrev pub entry_judged : LogError → Judged
+entry_judged why = exceeds (log_fault_text why)
 
 -- Why a log takes no landmark, and stores no tiles.
 abbrev pub log_judged : LogError → Judged
 log_judged log_error.NothingNew = forbids (codes "NothingNew")
 log_judged why = exceeds (log_fault_text why)
 
--- A landmark at the size of the log is set.
-abbrev pub mark_reported : LogView → Option LogError → StepReport
-mark_reported v None = (prints Done (next_line v), Some (landmark_record v.size))
-mark_reported v (Some why) = (log_judged why, None)
-
 -- The tiles that the entries fill are stored.
-abbrev pub tile_reported : LogView → Option LogError → StepReport
-tile_reported v None = (prints Done (tiled_line (full_size v)), Some (tiles_record (full_size v)))
-tile_reported v (Some why) = (log_judged why, None)
-
 -- Why a log isn't switched.
 abbrev pub switch_judged : LogError → Judged
 switch_judged (log_error.AlreadySwitched index) =
     forbids (codes "AlreadySwitched " ++ decimal index)
 switch_judged why = exceeds (log_fault_text why)
 
--- The log is switched at its size.
-abbrev pub switch_reported : LogView → Option LogError → StepReport
-switch_reported v None = (prints Done (switched_line v.size), Some (switch_record v.size))
-switch_reported v (Some why) = (switch_judged why, None)
-
 -- ---- each work
 
 abbrev pub work_reported : HashFunction → Work → FoundLog → StepReport
-work_reported h Checkpoint found = (checkpoint_judged h found.state.entries, None)
+work_reported h Checkpoint found = (
+  prints Done (checkpoint_lines (length found.state.entries) (tree_hash h found.state.entries)),
+  None,
+)
 work_reported h (Entries size) found = (entries_judged size found.state, None)
 work_reported h (EntriesFrom first size) found = (entries_from_judged first size found.state, None)
-work_reported h (Issue request) found = issue_reported h request (view_in found.state)
+work_reported h (Issue request) found = added_by entry_judged
+    (issued_record h (view_in found.state) request) (issued_text (view_in found.state).size)
     (add_refusal (view_in found.state) false (end_offset found.records)
     (issued_entry h (view_in found.state) request) request.key)
 work_reported h (Consist old new) found = (consist_judged h old new found.state, None)
 work_reported h (Subtree start end size) found = (subtree_judged h start end size found.state, None)
-work_reported h Landmark found = mark_reported (view_in found.state)
+work_reported h Landmark found = added_by log_judged
+    (landmark_record (view_in found.state).size) (next_line (view_in found.state))
     (mark_refusal (view_in found.state) false (end_offset found.records))
 work_reported h Landmarks found =
     (prints Done (list_text (log_landmarks (view_in found.state))), None)
 work_reported h (LightCert index) found = (
-  cert_judged (light_refusal (view_in found.state) index)
+  prints_unless write_judged (light_refusal (view_in found.state) index)
       (light_text h index found.state (covering_in (view_in found.state) index)),
   None,
 )
 work_reported h (Cert index start end signatures) found = (
-  cert_judged (cert_refusal (view_in found.state) index start end signatures)
+  prints_unless write_judged (cert_refusal (view_in found.state) index start end signatures)
       (certificate_in h index start end signatures found.state),
   None,
 )
-work_reported h (IssueList requests) found = list_reported h requests (view_in found.state)
+work_reported h (IssueList requests) found = added_by entry_judged
+    (issued_batch h (view_in found.state) requests)
+    (issued_lines (view_in found.state).size (length requests))
     (batch_refusal (view_in found.state) false (end_offset found.records)
     (issued_items h (view_in found.state) requests))
 work_reported h (LightCerts first last) found = (
-  certs_judged (light_certs_refusal (view_in found.state) first last)
+  prints_unless several_judged (light_certs_refusal (view_in found.state) first last)
       (light_certs_text h first last found.state),
   None,
 )
 work_reported h (Certs first last start end signatures) found = (
-  certs_judged (certs_refusal (view_in found.state) first last start end signatures)
+  prints_unless several_judged
+      (certs_refusal (view_in found.state) first last start end signatures)
       (certs_text h first last start end signatures found.state),
   None,
 )
-work_reported h Switch found = switch_reported (view_in found.state)
+work_reported h Switch found = added_by switch_judged
+    (switch_record (view_in found.state).size) (switched_line (view_in found.state).size)
     (switch_refusal (view_in found.state) false (end_offset found.records))
-work_reported h Tile found = tile_reported (view_in found.state)
+work_reported h Tile found = added_by log_judged
+    (tiles_record (full_size (view_in found.state))) (tiled_line (full_size (view_in found.state)))
     (tile_refusal (view_in found.state) false (end_offset found.records))

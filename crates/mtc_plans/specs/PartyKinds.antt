@@ -1,5 +1,6 @@
 -- The kinds of journals that the program's commands work on: those of logs, each with the file of
--- its tiles, and those of cosigners.
+-- its tiles, and those of cosigners. A log whose tiles are written again is a kind of its own: what
+-- their file has is not tested.
 use Rattle.std.specs.Prelude.{ℕ, Option, None, Some}
 use Rattle.byte_formats.specs.Types.{HashFunction, Text}
 use Rattle.journal_core.specs.Folds.{Fold}
@@ -13,34 +14,40 @@ use Rattle.issuance_log.specs.Reasons.{log_open_text}
 use Rattle.state_journal.specs.Reasons.{state_open_text}
 use Rattle.command_plans.specs.Kinds.{Kinds}
 
--- A journal is a log's or a cosigner's.
+-- A journal is a log's, of which the tiles are tested or written again, or a cosigner's.
 pub data PartyKind : Type 0 where
   log : PartyKind
+  rebuilt_log : PartyKind
   cosigner : PartyKind
 
 -- What the records of such a journal make.
 abbrev pub PartyState : PartyKind → Type 0
 PartyState log = LogState
+PartyState rebuilt_log = LogState
 PartyState cosigner = CosignerState
 
 -- Why they make nothing.
 abbrev pub PartyFault : PartyKind → Type 0
 PartyFault log = LogOpenError
+PartyFault rebuilt_log = LogOpenError
 PartyFault cosigner = StateOpenError
 
 -- How the records of a journal make it.
 abbrev pub party_fold : HashFunction → (kind : PartyKind) → Fold (PartyState kind) (PartyFault kind)
 party_fold h log = log_fold h
+party_fold h rebuilt_log = log_fold h
 party_fold h cosigner = cosigner_fold h
 
 -- The text of a fault, as a command prints it.
 abbrev pub party_fault_text : (kind : PartyKind) → PartyFault kind → Text
 party_fault_text log = log_open_text
+party_fault_text rebuilt_log = log_open_text
 party_fault_text cosigner = state_open_text
 
 -- A log has a file of tiles.
 abbrev pub beside_party : PartyKind → Text → Option Text
 beside_party log journal = Some (tiles_name journal)
+beside_party rebuilt_log journal = Some (tiles_name journal)
 beside_party cosigner journal = None
 
 -- The reason of the first tile that it has not.
@@ -51,9 +58,10 @@ missing_text (Some tile) = Some (bad_tile_text tile.0 tile.1)
 -- What the file beside a journal lacks, as the reason of the refusal.
 abbrev pub party_lacks : HashFunction → (kind : PartyKind) → PartyState kind → Text → Option Text
 party_lacks h log state tiles = missing_text (first_bad h state tiles)
+party_lacks h rebuilt_log state tiles = None
 party_lacks h cosigner state held = None
 
--- The two kinds together.
+-- The kinds together.
 abbrev pub party_kinds : HashFunction → Kinds
 party_kinds h = record {
   Kind = PartyKind;

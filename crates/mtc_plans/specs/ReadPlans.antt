@@ -1,7 +1,7 @@
 -- The plans of `member`, `show`, `verify`, `trust-landmarks`, `keygen` and `drill`, which open no
 -- journal.
 use Rattle.std.specs.Prelude.{ℕ, pos, Bool, true, false, List, [], ◌∷◌, ◌++◌, length, codes}
-use Rattle.std.specs.Prelude.{Result, Ok, Err}
+use Rattle.std.specs.Prelude.{None, Result, Ok, Err}
 use Rattle.std.specs.Fmt.{decimal}
 use Rattle.byte_formats.specs.Types.{HashFunction, Text}
 use Rattle.cert_fields.specs.Certificate.{parts_of}
@@ -29,7 +29,7 @@ use Rattle.mtc_relying.specs.ShowOutcome.{show_text}
 use Rattle.command_plans.specs.Kinds.{Kinds}
 use Rattle.command_plans.specs.Plans.{Input, Judged, Plan, Read, Step, in_form, misreads}
 use Rattle.command_plans.specs.Plans.{only_prints, prints, prints_formed}
-use Rattle.mtc_plans.specs.Steps.{entries_file, in_secret, prints_against, small_file}
+use Rattle.mtc_plans.specs.Steps.{list_file, in_secret, prints_against, small_file}
 
 -- ---- member FILE
 
@@ -40,29 +40,22 @@ member_judged index (Ok false) = prints_against (codes "HashDiffers")
 member_judged index (Err why) = prints_against (shape_text why)
 
 -- The file is cut into its parts and judged.
-abbrev pub member_step : {k : Kinds} {inputs : List Input} → HashFunction → Read inputs
-    → Step {k = k} inputs []
-member_step h file = in_form file hashes_fault_text (member_file file.text)
-    (λ m. only_prints (member_judged m.index (member_judgement h m)))
-
 abbrev pub member_plan : {k : Kinds} → HashFunction → Text → Plan k
 member_plan h file = record {
   inputs = small_file file ∷ [];
   journals = [];
-  steps = λ (m, none). member_step h m;
+  steps = λ (f, none). in_form f hashes_fault_text (member_file f.text)
+      (λ m. only_prints (member_judged m.index (member_judgement h m)));
 }
 
 -- ---- show CERT
-
-abbrev pub show_step : {k : Kinds} {inputs : List Input} → Read inputs → Step {k = k} inputs []
-show_step cert = in_form cert cert_fault_text (parts_of cert.text)
-    (λ p. only_prints (prints Done (show_text p)))
 
 abbrev pub show_plan : {k : Kinds} → Text → Plan k
 show_plan cert = record {
   inputs = small_file cert ∷ [];
   journals = [];
-  steps = λ (c, none). show_step c;
+  steps = λ (c, none). in_form c cert_fault_text (parts_of c.text)
+      (λ p. only_prints (prints Done (show_text p)));
 }
 
 -- ---- verify CERT STORE NOW
@@ -77,46 +70,34 @@ verdict_step cert (Err (ProofGrammar why)) = misreads cert (proof_fault_text why
 verdict_step cert (Err why) = only_prints (prints_against (refusal_text why))
 
 -- The store is read, and the certificate is judged by it.
-abbrev pub verify_step : {k : Kinds} {inputs : List Input} → HashFunction → ℕ → Read inputs
-    → Read inputs → Step {k = k} inputs []
-verify_step h unix_time cert store = in_form store store_fault_text (store_of store.text)
-    (λ s. verdict_step cert (judgement h cert.text s (pos unix_time)))
-
 abbrev pub verify_plan : {k : Kinds} → HashFunction → Text → Text → ℕ → Plan k
 verify_plan h cert store unix_time = record {
   inputs = small_file cert ∷ (small_file store ∷ []);
   journals = [];
-  steps = λ (c, (s, none)). verify_step h unix_time c s;
+  steps = λ (c, (s, none)). in_form s store_fault_text (store_of s.text)
+      (λ trusted. verdict_step c (judgement h c.text trusted (pos unix_time)));
 }
 
 -- ---- trust-landmarks LIST MAXACTIVE ENTRIES
 
 -- The entries are read, and then the list, of landmarks at no larger size than their number.
-abbrev pub trust_step : {k : Kinds} {inputs : List Input} → HashFunction → ℕ → Read inputs
-    → Read inputs → Step {k = k} inputs []
-trust_step h most list entries = in_form entries items_fault_text (items_in h entries.text)
-    (λ items. in_form list list_fault_text (list_of list.text most (length items.entries))
-    (λ l. only_prints (prints Done (trust_text h items.entries l))))
-
 abbrev pub trust_plan : {k : Kinds} → HashFunction → Text → ℕ → Text → Plan k
 trust_plan h list most entries = record {
-  inputs = small_file list ∷ (entries_file entries ∷ []);
+  inputs = small_file list ∷ (list_file entries ∷ []);
   journals = [];
-  steps = λ (l, (e, none)). trust_step h most l e;
+  steps = λ (l, (e, none)). in_form e items_fault_text (items_in h e.text)
+      (λ items. in_form l list_fault_text (list_of l.text most (length items.entries))
+      (λ marks. only_prints (prints Done (trust_text h items.entries marks))));
 }
 
 -- ---- keygen HEIGHT WIDTH SECRET
-
-abbrev pub keygen_step : {k : Kinds} {inputs : List Input} → ℕ → ℕ → Read inputs
-    → Step {k = k} inputs []
-keygen_step height width secret = in_secret secret
-    (only_prints (prints Done (public_line (lms_type height) (ots_type width) secret.text)))
 
 abbrev pub keygen_plan : {k : Kinds} → ℕ → ℕ → Text → Plan k
 keygen_plan height width file = record {
   inputs = small_file file ∷ [];
   journals = [];
-  steps = λ (s, none). keygen_step height width s;
+  steps = λ (s, none). in_secret s
+      (only_prints (prints Done (public_line (lms_type height) None (ots_type width) s.text)));
 }
 
 -- ---- drill NUMBER

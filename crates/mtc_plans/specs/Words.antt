@@ -3,18 +3,25 @@
 use Rattle.std.specs.Prelude.{Bool, true, false, List, [], Option, None, Some}
 use Rattle.byte_formats.specs.Types.{Text}
 use Rattle.mtc_words.specs.Commands.{CommandValue, entries, entries_from, export, init_cosigner}
-use Rattle.mtc_words.specs.Commands.{init_log, tile}
+use Rattle.mtc_words.specs.Commands.{init_log, tile, tile_anew}
 
 -- The journal that it makes: two commands begin one.
 abbrev pub journal_made_by : CommandValue → Option Text
 journal_made_by (init_log journal id active limit) = Some journal
-journal_made_by (init_cosigner journal id log height width file) = Some journal
+journal_made_by (init_cosigner journal id log top low width file) = Some journal
 journal_made_by other = None
 
--- Of the files beside its journal those that it only reads: all, but that `tile` writes its own.
+-- Of the files beside its journal those that it only reads: all, but that `tile` and `tile-anew`
+-- write their own.
 abbrev pub only_read_by : CommandValue → List Text → List Text
 only_read_by (tile journal) besides = []
+only_read_by (tile_anew journal) besides = []
 only_read_by other besides = besides
+
+-- The log whose tiles it makes whole.
+abbrev pub tiles_made_by : CommandValue → Option Text
+tiles_made_by (tile_anew journal) = Some journal
+tiles_made_by other = None
 
 -- It may write its text while it still reads its journal. The text of any other command is written
 -- once all else is done.

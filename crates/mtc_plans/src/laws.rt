@@ -15,7 +15,8 @@ ghost use Rattle.command_plans.specs.Plans.{Journal};
 ghost use Rattle.mtc_plans.specs.Cited.{command_outcome};
 ghost use Rattle.mtc_plans.specs.Commands.{plan_of, planned_outcome};
 ghost use Rattle.mtc_plans.specs.Heard.{AdvancedTextsAreOfRecords, BegunTextsAreOfSecrets};
-ghost use Rattle.mtc_plans.specs.Heard.{CosignedTextsAreOfRecords, ExportedTextsAreOfRecords};
+ghost use Rattle.mtc_plans.specs.Heard.{ChildTextsAreOfRecords, CosignedTextsAreOfRecords};
+ghost use Rattle.mtc_plans.specs.Heard.{ExportedTextsAreOfRecords};
 ghost use Rattle.mtc_plans.specs.Heard.{IssuedListsAreOfRecords, IssuedTextsAreOfRecords};
 ghost use Rattle.mtc_plans.specs.Heard.{KeyTextsAreOfSecrets, SwitchedTextsAreOfRecords};
 ghost use Rattle.mtc_plans.specs.PartyKinds.{party_kinds};
@@ -30,15 +31,16 @@ pub fn law_commands_have_plans()
 
 /// The journals of a command's plan are those that its arguments name, and it makes one if the
 /// command begins a log or a cosigner. A file beside a journal of any plan is one of tiles, so a
-/// journal whose name isn't that of a tile file is none of these. `tile` alone writes such a file:
-/// every other command only reads the one beside its journal.
+/// journal whose name isn't that of a tile file has another place than these. `tile` and
+/// `tile-anew` alone write such a file: every other command only reads the one beside its journal.
 pub fn law_plans_name_their_files()
     ensures journals { (h : HashFunction) (command : CommandValue)
         → journal_names (plan_of h command).journals ≡ option_to_list (journal_of command) }
     ensures makes { (h : HashFunction) (command : CommandValue)
         → made_names (plan_of h command).journals ≡ option_to_list (journal_made_by command) }
-    ensures beside { (h : HashFunction) (journals : List (Journal (party_kinds h))) (name : Text)
-        → is_tiles_name name ≡ false → IsOther (beside_names journals) name }
+    ensures beside { (h : HashFunction) (leads_to : Text → Text)
+        (journals : List (Journal (party_kinds h))) (name : Text)
+        → is_tiles_name name ≡ false → IsOther leads_to (beside_names journals) name }
     ensures only_read { (h : HashFunction) (command : CommandValue)
         → only_read_names (plan_of h command).journals
         ≡ only_read_by command (beside_names (plan_of h command).journals) }
@@ -70,16 +72,18 @@ pub fn law_commands_come()
 /// text is their indexes, a line for each. Where `switch` does, a Switch is added to a log that may
 /// be switched, and the text is its size. Where `cosign` does, a Sign record is added with the next
 /// one-time key, and the text is the signature by that; where `advance` does, an Advance record,
-/// and the text is the size of the request. The text of `export`
-/// is what others may know of the cosigner that was found, and no record is added. The text of
-/// `keygen` and of `init-cosigner` is the public key of the secret that was read, and the new
-/// cosigner's first record is of that secret.
+/// and the text is the size of the request; where `child` does, a Child record of the next lower
+/// tree, and the text is its number. The text of `export` is what others may know of the cosigner
+/// that was found, and no record is added. The text of `keygen`, of `init-cosigner` and of
+/// `init-cosigner2` is the public key of the secret that was read, and the new cosigner's first
+/// record is of that secret.
 pub fn law_texts_are_of_their_records()
     ensures issue { IssuedTextsAreOfRecords }
     ensures issue_list { IssuedListsAreOfRecords }
     ensures switch { SwitchedTextsAreOfRecords }
     ensures cosign { CosignedTextsAreOfRecords }
     ensures advance { AdvancedTextsAreOfRecords }
+    ensures child { ChildTextsAreOfRecords }
     ensures export { ExportedTextsAreOfRecords }
     ensures keygen { KeyTextsAreOfSecrets }
     ensures init { BegunTextsAreOfSecrets }

@@ -27,7 +27,7 @@ use Rattle.mtc_command.specs.declared.answer.Stopped.TheVariants.{Missing, Beyon
 use Rattle.mtc_command.specs.Works.{ModelsNew}
 use Rattle.mtc_command.proofs.Served.{each_so, each_is}
 use Rattle.mtc_authority.specs.NoJournal.{SparesTiles}
-use Rattle.mtc_authority.specs.StoredTiles.{HasTilesOf}
+use Rattle.mtc_authority.specs.StoredTiles.{HasTilesOf, MakesTilesWhole}
 use Rattle.mtc_io.proofs.Streams.{prefix_whole}
 use Rattle.mtc_lines.specs.Outputs.{BrokeItsText, Streams}
 use Rattle.mtc_top.specs.Concluded.{Wrote, Lost, Concludes, Prints, PrintsPrefix}
@@ -147,6 +147,9 @@ module _ {R S D O E : Type 0} (h : List ℕ → List ℕ) (rooms : Rooms R S D) 
 
   abbrev New : Ending → Type 0
   New ending = IfSome asked.makes (λ name. ModelsNew rooms disks name old new ending)
+
+  abbrev Whole : Ending → Type 0
+  Whole ending = IfSome asked.whole (λ name. MakesTilesWhole h rooms disks old new name ending)
 
   abbrev Out : Ending → ℕ → Type 0
   Out ending status =
@@ -334,7 +337,7 @@ module _ {R S D O E : Type 0} (h : List ℕ → List ℕ) (rooms : Rooms R S D) 
   -- what was done, and how it ended
   abbrev pub DoneSo : Ending → Type 0
   DoneSo ending = HasDone rooms disks Bad files asked.journals asked.besides cited old new ending
-      × New ending
+      × (New ending × Whole ending)
 
   done_as : (ending : Ending) → DoneSo ending
       → HasDone rooms disks Bad files asked.journals asked.besides want old new ending
@@ -358,7 +361,8 @@ module _ {R S D O E : Type 0} (h : List ℕ → List ℕ) (rooms : Rooms R S D) 
         concludes = gone;
         back = did.back;
         made = did.made;
-        began = done.1;
+        began = done.1.0;
+        whole = done.1.1;
         only_read = only_read;
         spares = subst (λ (o : Outcome). OfEach (λ name did. SparesTiles rooms old new name)
             (done_with asked.journals o.journals)) same spares;

@@ -10,4 +10,4 @@ use Rattle.mtc_authority.specs.NoJournal.{SparesTiles}
 pub spared : {R S D : Type 0} (rooms : Rooms R S D) (old new : R) (name : List ℕ)
     → ClosesAll rooms old new (name ∷ []) → SparesTiles rooms old new name
 spared rooms old new name closes = λ t not. closes.others (tiles_name name)
-    (λ (same : tiles_name name ≡ name). longer_other name (sym same), tt)
+    (λ same. longer_other rooms.leads_to name (sym same), tt)

@@ -10,19 +10,21 @@ use Rattle.command_plans.specs.Names.{only_read_names}
 use Rattle.command_plans.specs.Rules.{AreOfFirst}
 use Rattle.mtc_plans.specs.Commands.{plan_of, planned_outcome}
 use Rattle.mtc_plans.specs.PartyKinds.{party_kinds}
-use Rattle.mtc_plans.specs.Words.{streams}
+use Rattle.mtc_plans.specs.Words.{streams, tiles_made_by}
 use Rattle.mtc_words.specs.Reasons.{word_fault_text}
 
 -- What is to be known of a command: the journals that it works on, the files that it may make or
--- change beside them, those of these that it only reads, the journal that it makes, the files that
--- it reads, which lists of records are a party's of the kind that it works on, whether it may write
--- its text while it reads its journals, and what it answers over the files of the file system. Its
--- arguments name its journals first, and then the files that it reads.
+-- change beside them, those of these that it only reads, the journal that it makes, the log whose
+-- tiles it makes whole, the files that it reads, which lists of records are a party's of the kind
+-- that it works on, whether it may write its text while it reads its journals, and what it answers
+-- over the files of the file system. Its arguments name its journals first, and then the files that
+-- it reads.
 pub record Facts : Type 1 where
   pub journals : List Text
   pub besides : List Text
   pub only_reads : List Text
   pub makes : Option Text
+  pub whole : Option Text
   pub inputs : List Text
   pub Valid : List Text → Type 0
   pub streams : Bool
@@ -35,26 +37,25 @@ facts_of h command = record {
   besides = beside_names (plan_of h command).journals;
   only_reads = only_read_names (plan_of h command).journals;
   makes = first_made (plan_of h command).journals;
+  whole = tiles_made_by command;
   inputs = input_names (plan_of h command).inputs;
   Valid = AreOfFirst (party_kinds h) (plan_of h command).journals;
   streams = streams command;
   outcome = planned_outcome h command;
 }
 
--- Arguments that are no command name no file, and are answered so.
-abbrev pub no_command : WordError → Facts
-no_command why = record {
+-- What is to be known where the arguments say this. Those that are no command name no file, and are
+-- answered so.
+abbrev pub facts : HashFunction → Result CommandValue WordError → Facts
+facts h (Ok command) = facts_of h command
+facts h (Err why) = record {
   journals = [];
   besides = [];
   only_reads = [];
   makes = None;
+  whole = None;
   inputs = [];
   Valid = λ list. ⊥;
   streams = false;
   outcome = λ files. stops BadWords (word_fault_text why);
 }
-
--- What is to be known where the arguments say this.
-abbrev pub facts : HashFunction → Result CommandValue WordError → Facts
-facts h (Ok command) = facts_of h command
-facts h (Err why) = no_command why

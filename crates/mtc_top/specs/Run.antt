@@ -17,7 +17,7 @@ use Rattle.mtc_command.specs.Valid.{KeepsValid}
 use Rattle.mtc_command.specs.Wanted.{Meets}
 use Rattle.mtc_command.specs.Works.{ModelsNew}
 use Rattle.mtc_authority.specs.NoJournal.{SparesTiles}
-use Rattle.mtc_authority.specs.StoredTiles.{HasTilesOf}
+use Rattle.mtc_authority.specs.StoredTiles.{HasTilesOf, MakesTilesWhole}
 use Rattle.mtc_top.specs.Concluded.{BreaksAt, Concludes}
 use Rattle.mtc_top.specs.Facts.{Facts, facts}
 
@@ -71,6 +71,10 @@ module _ {R S D O E : Type 0} (h : HashFunction) (rooms : Rooms R S D) (disks : 
     -- Of a command that makes a journal, whatever is known of its files: how it ended is what came
     -- of that.
     pub began : IfSome asked.makes (λ name. ModelsNew rooms disks name old new ending)
+    -- Of a command that makes the tiles of a log whole: if it did its work, each crash state of
+    -- their file has those of the last size in the journal, whatever the file had before, and the
+    -- bytes after these stay. If it replied anything else, nothing new is left of the file.
+    pub whole : IfSome asked.whole (λ name. MakesTilesWhole h rooms disks old new name ending)
     -- Nothing new is left of a file that the command only reads.
     pub only_read : rooms.is_modelled old
         → LeavesEach rooms disks old new (done_with asked.only_reads []) HasKept

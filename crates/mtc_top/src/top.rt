@@ -7,7 +7,7 @@ ghost use Rattle.mtc_words.specs.Words.{command_of};
 ghost use Rattle.mtc_command.specs.Answers.{ending_of};
 ghost use Rattle.mtc_command.specs.Made.{HasKept};
 ghost use Rattle.mtc_authority.specs.NoJournal.{SparesTiles};
-ghost use Rattle.mtc_authority.specs.StoredTiles.{HasTilesOf};
+ghost use Rattle.mtc_authority.specs.StoredTiles.{HasTilesOf, MakesTilesWhole};
 ghost use Rattle.mtc_command.specs.Served.{HasDone, LeavesEach, OfEach, done_with};
 ghost use Rattle.mtc_command.specs.Stored.{StoresBeside};
 ghost use Rattle.mtc_command.specs.Valid.{KeepsValid};
@@ -27,8 +27,10 @@ use mtc_authority::certs::certs;
 use mtc_authority::init_log::init_log;
 use mtc_authority::issue::issue;
 use mtc_authority::issue_list::issue_list;
+use mtc_authority::tile_anew::tile_anew;
 use mtc_authority::{Work, on_log, stream_log};
 use mtc_command::{Answer, Stop, Stopped, refuse};
+use mtc_cosigner::child::child;
 use mtc_cosigner::export::export;
 use mtc_cosigner::init_cosigner::init_cosigner;
 use mtc_cosigner::keygen::keygen;
@@ -71,6 +73,8 @@ fn perform_reading<'a, H: TreeHash, R: Room>(
         room.old room.new }
     ensures began { IfSome (facts_of H.hash (command_value command.entry)).makes (λ name.
         ModelsNew R.Room R.Dsk.Disk name room.old room.new (ending_of result)) }
+    ensures whole { IfSome (facts_of H.hash (command_value command.entry)).whole (λ name.
+        MakesTilesWhole H.hash R.Room R.Dsk.Disk room.old room.new name (ending_of result)) }
     ensures only_read { R.is_modelled room.old → LeavesEach R.Room R.Dsk.Disk room.old room.new
         (done_with (facts_of H.hash (command_value command.entry)).only_reads []) HasKept }
     ensures spares { let asked = facts_of H.hash (command_value command.entry) in
@@ -126,6 +130,8 @@ fn perform<'a, H: TreeHash, R: Room>(
         room.old room.new }
     ensures began { IfSome (facts_of H.hash (command_value command.entry)).makes (λ name.
         ModelsNew R.Room R.Dsk.Disk name room.old room.new (ending_of result)) }
+    ensures whole { IfSome (facts_of H.hash (command_value command.entry)).whole (λ name.
+        MakesTilesWhole H.hash R.Room R.Dsk.Disk room.old room.new name (ending_of result)) }
     ensures only_read { R.is_modelled room.old → LeavesEach R.Room R.Dsk.Disk room.old room.new
         (done_with (facts_of H.hash (command_value command.entry)).only_reads []) HasKept }
     ensures spares { let asked = facts_of H.hash (command_value command.entry) in
@@ -141,17 +147,16 @@ fn perform<'a, H: TreeHash, R: Room>(
         Command::InitLog(log, id, active, limit) => init_log(alloc, room, log, id, active, limit),
         Command::Issue(journal, request) => issue::<H, R>(alloc, room, journal, request),
         Command::Checkpoint(log) => on_log::<H, R>(alloc, room, log, Work::Checkpoint),
-        Command::Entries(_, _) | Command::EntriesFrom(_, _, _) => unreachable!(),
         Command::Consist(log, old, to) => on_log::<H, R>(alloc, room, log, Work::Consist(old, to)),
         Command::Subtree(log, start, end, size) => {
             on_log::<H, R>(alloc, room, log, Work::Subtree(start, end, size))
         }
-        Command::InitCosigner(journal, id, log, height, width, secret) => {
-            init_cosigner(alloc, room, journal, id, log, height, width, secret)
+        Command::InitCosigner(journal, id, log, top, low, width, secret) => {
+            init_cosigner(alloc, room, journal, id, log, top, low, width, secret)
         }
         Command::Advance(journal, request) => advance::<H, R>(alloc, room, journal, request),
+        Command::Child(journal) => child::<H, R>(alloc, room, journal),
         Command::Cosign(journal, request) => cosign::<H, R>(alloc, room, journal, request),
-        Command::Export(_) => unreachable!(),
         Command::Landmark(log) => on_log::<H, R>(alloc, room, log, Work::Landmark),
         Command::Landmarks(log) => on_log::<H, R>(alloc, room, log, Work::Landmarks),
         Command::LightCert(log, index) => on_log::<H, R>(alloc, room, log, Work::LightCert(index)),
@@ -167,6 +172,7 @@ fn perform<'a, H: TreeHash, R: Room>(
         }
         Command::Switch(log) => on_log::<H, R>(alloc, room, log, Work::Switch),
         Command::Tile(log) => on_log::<H, R>(alloc, room, log, Work::Tile),
+        Command::TileAnew(log) => tile_anew::<H, R>(alloc, room, log),
         _ => perform_reading::<H, R>(alloc, room, command),
     }
 }
@@ -185,8 +191,10 @@ fn carry_out<'a, H: TreeHash, R: Room, O: Sink>(
         HasDone R.Room R.Dsk.Disk ⊥ (asked.journals ++ (asked.besides ++ asked.inputs))
         asked.journals asked.besides
         (command_outcome H.hash (command_value command.entry) (R.file room.old)) room.old room.new
-        ending × IfSome asked.makes (λ name.
-        ModelsNew R.Room R.Dsk.Disk name room.old room.new ending)) result }
+        ending × (IfSome asked.makes (λ name.
+        ModelsNew R.Room R.Dsk.Disk name room.old room.new ending)
+        × IfSome asked.whole (λ name.
+        MakesTilesWhole H.hash R.Room R.Dsk.Disk room.old room.new name ending))) result }
     ensures valid { let asked = facts_of H.hash (command_value command.entry) in
         KeepsValid R.Room R.Dsk.Disk asked.Valid asked.journals
         (command_outcome H.hash (command_value command.entry) (R.file room.old))
@@ -230,8 +238,10 @@ fn answer<'a, H: TreeHash, R: Room, O: Sink>(
         HasDone R.Room R.Dsk.Disk (IsErr said)
         (asked.journals ++ (asked.besides ++ asked.inputs)) asked.journals asked.besides
         (spoken_outcome H.hash said (R.file room.old)) room.old room.new ending
-        × IfSome asked.makes (λ name.
-        ModelsNew R.Room R.Dsk.Disk name room.old room.new ending)) result }
+        × (IfSome asked.makes (λ name.
+        ModelsNew R.Room R.Dsk.Disk name room.old room.new ending)
+        × IfSome asked.whole (λ name.
+        MakesTilesWhole H.hash R.Room R.Dsk.Disk room.old room.new name ending))) result }
     ensures valid { let said = command_of (map string_bytes words.now) in
         let asked = facts H.hash said in
         KeepsValid R.Room R.Dsk.Disk asked.Valid asked.journals

@@ -3,10 +3,12 @@ use Rattle.mtc_laws.proofs.laws.law_entries_keep_their_indices.Goals as goal
 
 pub returns-clause-found : goal.returns-clause-found
 returns-clause-found g c = entries_stand g.H.TreeHash.hash g.R.Room g.R.Dsk.Disk g.O.Sink g.E.Sink
-    g.met.R.Dsk.Disk.reads_crash_state g.met.R.Dsk.Disk.only_now g.met.R.Room.modelled_file
+    g.met.R.Dsk.Disk.reads_crash_state g.met.R.Dsk.Disk.only_now
+    (g.met.R.Room.modelled_file, g.met.R.Room.one_device)
     g.met.R.Dsk.Disk.contents_bytes
 
 pub returns-clause-added : goal.returns-clause-added
 returns-clause-added g c = added_stand g.H.TreeHash.hash g.R.Room g.R.Dsk.Disk g.O.Sink g.E.Sink
-    g.met.R.Dsk.Disk.reads_crash_state g.met.R.Dsk.Disk.only_now g.met.R.Room.modelled_file
+    g.met.R.Dsk.Disk.reads_crash_state g.met.R.Dsk.Disk.only_now
+    (g.met.R.Room.modelled_file, g.met.R.Room.one_device)
     g.met.R.Dsk.Disk.contents_bytes

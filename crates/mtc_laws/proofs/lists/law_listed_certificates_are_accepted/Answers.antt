@@ -5,11 +5,13 @@ use Rattle.mtc_laws.proofs.lists.law_listed_certificates_are_accepted.Goals as g
 pub returns-clause-entries : goal.returns-clause-entries
 returns-clause-entries g c = listed_entries_accepted g.H.TreeHash.hash g.R.Room g.R.Dsk.Disk
     g.O.Sink g.E.Sink g.met.R.Dsk.Disk.reads_crash_state g.met.R.Dsk.Disk.only_now
-    g.met.R.Room.modelled_file g.met.R.Dsk.Disk.contents_bytes g.met.H.TreeHash.sized
+    (g.met.R.Room.modelled_file, g.met.R.Room.one_device) g.met.R.Dsk.Disk.contents_bytes
+    g.met.H.TreeHash.sized
     c.law_records_keep_to_the_rules.ensures.only_first
 
 pub returns-clause-certificates : goal.returns-clause-certificates
 returns-clause-certificates g c = listed_certificates_accepted g.H.TreeHash.hash g.R.Room
     g.R.Dsk.Disk g.O.Sink g.E.Sink g.met.R.Dsk.Disk.reads_crash_state g.met.R.Dsk.Disk.only_now
-    g.met.R.Room.modelled_file g.met.R.Dsk.Disk.contents_bytes g.met.H.TreeHash.sized
+    (g.met.R.Room.modelled_file, g.met.R.Room.one_device) g.met.R.Dsk.Disk.contents_bytes
+    g.met.H.TreeHash.sized
     c.law_records_keep_to_the_rules.ensures.only_first

@@ -5,7 +5,7 @@ pub returns-clause-journals : goal.returns-clause-journals
 returns-clause-journals c = journals_named
 
 pub returns-clause-beside : goal.returns-clause-beside
-returns-clause-beside c = no_journal_beside
+returns-clause-beside c = λ h leads_to. no_journal_beside leads_to h
 
 pub returns-clause-makes : goal.returns-clause-makes
 returns-clause-makes c = made_named

@@ -1,5 +1,5 @@
 use Rattle.mtc_plans.proofs.Heard.{advanced_so, begun_so, cosigned_so, exported_so, issued_so}
-use Rattle.mtc_plans.proofs.Heard.{all_issued_so, keyed_so, switched_so}
+use Rattle.mtc_plans.proofs.Heard.{all_issued_so, has_child_so, keyed_so, switched_so}
 use Rattle.mtc_plans.proofs.laws.law_texts_are_of_their_records.Goals as goal
 
 pub returns-clause-issue : goal.returns-clause-issue
@@ -16,6 +16,9 @@ returns-clause-cosign c = cosigned_so
 
 pub returns-clause-advance : goal.returns-clause-advance
 returns-clause-advance c = advanced_so
+
+pub returns-clause-child : goal.returns-clause-child
+returns-clause-child c = has_child_so
 
 pub returns-clause-export : goal.returns-clause-export
 returns-clause-export c = exported_so

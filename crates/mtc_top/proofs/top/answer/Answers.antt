@@ -6,7 +6,7 @@ use Rattle.mtc_command.specs.Stored.{StoresBeside}
 use Rattle.mtc_command.specs.Valid.{KeepsValid}
 use Rattle.mtc_command.specs.Works.{ModelsNew}
 use Rattle.mtc_authority.specs.NoJournal.{SparesTiles}
-use Rattle.mtc_authority.specs.StoredTiles.{HasTilesOf}
+use Rattle.mtc_authority.specs.StoredTiles.{HasTilesOf, MakesTilesWhole}
 use Rattle.mtc_plans.specs.Cited.{command_outcome}
 use Rattle.mtc_top.specs.Cited.{spoken_outcome}
 use Rattle.mtc_top.specs.Ended.{HasCarriedOut}
@@ -33,14 +33,18 @@ returns-in-Ok-clause-done g c =
     (asked.journals ++ (asked.besides ++ asked.inputs)) asked.journals asked.besides
     (spoken_outcome g.H.TreeHash.hash said (g.R.Room.file c.args.room.now)) c.args.room.now
     c.carry_out.new.room ending
-    × IfSome asked.makes (λ name. ModelsNew g.R.Room g.R.Dsk.Disk name c.args.room.now
-    c.carry_out.new.room ending)) c.carry_out.result) (sym c.in-Ok.ensures.exact)
+    × (IfSome asked.makes (λ name. ModelsNew g.R.Room g.R.Dsk.Disk name c.args.room.now
+    c.carry_out.new.room ending) × IfSome asked.whole (λ name. MakesTilesWhole g.H.TreeHash.hash
+    g.R.Room g.R.Dsk.Disk c.args.room.now c.carry_out.new.room name ending)))
+    c.carry_out.result) (sym c.in-Ok.ensures.exact)
     (in_words g.R.Room g.R.Dsk.Disk command (its.journals ++ (its.besides ++ its.inputs))
     its.journals its.besides
     (command_outcome g.H.TreeHash.hash command (g.R.Room.file room)) room c.carry_out.new.room
     g.O.Sink c.args.out.now c.carry_out.new.out its.streams
     (λ ending. IfSome its.makes
-    (λ name. ModelsNew g.R.Room g.R.Dsk.Disk name room c.carry_out.new.room ending))
+    (λ name. ModelsNew g.R.Room g.R.Dsk.Disk name room c.carry_out.new.room ending)
+    × IfSome its.whole (λ name. MakesTilesWhole g.H.TreeHash.hash g.R.Room g.R.Dsk.Disk room
+    c.carry_out.new.room name ending))
     c.carry_out.result c.carry_out.ensures.done)
 
 pub returns-in-Ok-clause-spares : goal.returns-in-Ok-clause-spares

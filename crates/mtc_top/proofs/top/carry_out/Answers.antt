@@ -11,7 +11,7 @@ use Rattle.mtc_top.proofs.top.carry_out.Goals as goal
 pub returns-in-Export-clause-done : goal.returns-in-Export-clause-done
 returns-in-Export-clause-done g c = rw c.in-Export.is (
   refl,
-  streams_so g.O.Sink c.args.out.now c.export.new.out _ _ (λ ending served. (served, tt))
+  streams_so g.O.Sink c.args.out.now c.export.new.out _ _ (λ ending served. (served, (tt, tt)))
       c.export.result c.export.ensures.streams,
 )
 
@@ -39,7 +39,7 @@ perform-requires-clause-kept g c = go c.args.command refl
 pub returns-in-Entries-clause-done : goal.returns-in-Entries-clause-done
 returns-in-Entries-clause-done g c = rw c.in-Entries.is (
   refl,
-  streams_so g.O.Sink c.args.out.now c.stream_log.new.out _ _ (λ ending served. (served, tt))
+  streams_so g.O.Sink c.args.out.now c.stream_log.new.out _ _ (λ ending served. (served, (tt, tt)))
       c.stream_log.result c.stream_log.ensures.streams,
 )
 
@@ -60,7 +60,7 @@ pub returns-in-EntriesFrom-clause-done : goal.returns-in-EntriesFrom-clause-done
 returns-in-EntriesFrom-clause-done g c = rw c.in-EntriesFrom.is (
   refl,
   streams_so g.O.Sink c.args.out.now c.stream_log-in-EntriesFrom.new.out _ _
-      (λ ending served. (served, tt)) c.stream_log-in-EntriesFrom.result
+      (λ ending served. (served, (tt, tt))) c.stream_log-in-EntriesFrom.result
       c.stream_log-in-EntriesFrom.ensures.streams,
 )
 
