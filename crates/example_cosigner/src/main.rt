@@ -40,6 +40,7 @@ fn begun(
         id: id_of(alloc, "32473.2")?,
         log: id_of(alloc, "32473.1")?,
         lms: LmsType::H5,
+        low: None,
         ots: OtsType::W8,
     };
     let Some(secret) = Secret::from_slice(secret) else {

@@ -1,24 +1,17 @@
-//! A certificate that is accepted, with its fields and its proof; and the steps of an export: what
-//! an audit requires.
+//! A certificate that is accepted, with its fields and its proof, as an audit requires.
 
-ghost use Rattle.std.specs.Prelude.{◌≡◌, Ok, Err, IfOk, IfErr, IfSome};
-ghost use Rattle.byte_formats.specs.Readings.{Answers};
+ghost use Rattle.std.specs.Prelude.{◌≡◌, Ok, Err, IfOk, IfErr};
 ghost use Rattle.cert_fields.specs.Certificate.{parts_of};
 ghost use Rattle.cert_fields.specs.Views.{parts};
-ghost use Rattle.cosigner_core.specs.ExportReading.{export_in};
-ghost use Rattle.cosigner_core.specs.declared.error.ReadExportError.TheVariants.{Memory as NoCapacity};
-ghost use Rattle.cosigner_steps.specs.Steps.{AreSteps};
 ghost use Rattle.mtc_library.specs.Hosts.{is_for};
 ghost use Rattle.mtc_proof.specs.Views.{proof_parts};
 ghost use Rattle.policy_core.specs.Judgement.{judgement};
 ghost use Rattle.world_core.specs.Audit.{WasJudged};
 
 use cert_fields::{Cert, dns_names, parse};
-use cosigner_core::{Export, ReadExportError, read_export};
 use mtc_proof::{Proof, read_proof};
 use policy_core::{Accepted, Refusal, ValidStore};
 use relying_party::judge_cert;
-use std::alloc::Global;
 use tree_core::TreeHash;
 
 /// A certificate that a store accepts, and its proof.
@@ -65,16 +58,4 @@ pub fn is_for(cert: &Cert, host: &[u8]) -> bool
         }
     }
     false
-}
-
-/// Reads the export of a cosigner, with the errors of [`read_export`]: its steps are those of a
-/// cosigner, as an audit requires. No bytes are no export.
-pub fn read_steps<H: TreeHash>(
-    alloc: Global,
-    bytes: &[u8],
-) -> Result<Option<Export>, ReadExportError>
-    ensures exact { Answers NoCapacity (export_in H.hash bytes.now) result }
-    ensures steps { IfOk result (λ kept. IfSome kept (λ e. AreSteps H.hash e.steps)) }
-{
-    read_export::<H>(alloc, bytes)
 }

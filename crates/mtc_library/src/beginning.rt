@@ -1,6 +1,6 @@
 //! Cosigners and logs that begin, and are open then as one is that was there.
 
-ghost use Rattle.std.specs.Prelude.{ℕ, IfOk, IfErr};
+ghost use Rattle.std.specs.Prelude.{ℕ, IfOk, IfErr, IfSome};
 ghost use Rattle.cosigner_core.specs.Records.{cosigner_record};
 ghost use Rattle.disk_core.specs.Times.{OnlyReads};
 ghost use Rattle.frame_pool.specs.Frames.{HoldsKey};
@@ -92,7 +92,8 @@ pub fn begin_cosigner<H: TreeHash, D: Disk>(
     settings: &CosignerSettings,
     secret: &Secret,
 ) -> Result<Cosigner<H, D>, Refused<D, CosignerBeginError>>
-    requires { IsSigningHeight settings.now.lms }
+    requires small { IsSigningHeight settings.now.lms }
+    requires low { IfSome settings.now.low IsSigningHeight }
     ensures begun { IfOk result (IsNewCosigner settings.now secret.now disk) }
     ensures refused { IfErr result (λ e. CosignerIsNotBegun D.Disk H.hash
         (cosigner_record settings.now secret.now) disk e.disk e.why) }

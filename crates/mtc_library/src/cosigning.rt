@@ -2,8 +2,8 @@
 
 pub use crate::beginning::{CosignerBeginError, begin_cosigner};
 pub use cosigner_core::{
-    AdvanceRequest, CosignError, Cosigner, CosignerOpenError, CosignerSettings, ExportError,
-    FormError, KeylessCosigner, SubtreeRequest, read_advance, read_subtree,
+    AdvanceRequest, ChildError, CosignError, Cosigner, CosignerOpenError, CosignerSettings,
+    ExportError, FormError, KeylessCosigner, SubtreeRequest, read_advance, read_subtree,
 };
 pub use disk_core::{Disk, FileDisk, MemDisk};
 pub use hss_core::{LmsType, OtsType, PUBLIC_KEY_LEN, Secret, SigBuf};

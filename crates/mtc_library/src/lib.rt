@@ -10,9 +10,8 @@
 //!
 //! A log or a cosigner that stands in a file is opened by [`cosigning::open_journal`], which locks
 //! it. The words of the contracts stand by role in `specs`. What begins a log or a cosigner stands
-//! here, and so do [`judging::accept`], [`judging::is_for`] and [`auditing::read_steps`]; all else
-//! is of the crates of the roles. No clause says which call a program has to make: each states what
-//! it requires.
+//! here, and so do [`judging::accept`] and [`judging::is_for`]; all else is of the crates of the
+//! roles. No clause says which call a program has to make: each states what it requires.
 #![tactic(auto)]
 
 mod accepting;
