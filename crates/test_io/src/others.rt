@@ -140,17 +140,18 @@ fn is_refused<R: Files<File = File>>(files: &R, name: &str, mode: u32) -> io::Re
     Ok(disk_refusal(files, name) == FAILED)
 }
 
-// Whether it refuses each of the three with this mode.
-fn are_refused<R: Files<File = File>>(files: &R, mode: u32) -> io::Result<[bool; 3]> {
+// Whether it refuses each of the four with this mode.
+fn are_refused<R: Files<File = File>>(files: &R, mode: u32) -> io::Result<[bool; 4]> {
     Ok([
         is_refused(files, "mtc_files_modes/cosigner", mode)?,
+        is_refused(files, "mtc_files_modes/cosigner-of-two-levels", mode)?,
         is_refused(files, "mtc_files_modes/log", mode)?,
         is_refused(files, "mtc_files_modes/other", mode)?,
     ])
 }
 
-// The journals of a cosigner and of a log, and another file.
-fn make_three<R: Files<File = File> + Alloc>(
+// The journals of cosigners and of a log, and another file.
+fn make_four<R: Files<File = File> + Alloc>(
     files: &R,
     alloc: Global,
     folder: &str,
@@ -158,6 +159,7 @@ fn make_three<R: Files<File = File> + Alloc>(
     let _ = fs::remove_dir_all(files, folder);
     fs::create_dir(files, folder)?;
     put_begun(files, alloc, "mtc_files_modes/cosigner", 0x11)?;
+    put_begun(files, alloc, "mtc_files_modes/cosigner-of-two-levels", 0x15)?;
     put_begun(files, alloc, "mtc_files_modes/log", 0x01)?;
     put(
         files,
@@ -170,13 +172,14 @@ fn make_three<R: Files<File = File> + Alloc>(
 #[test]
 fn a_cosigners_journal_is_its_owners_alone(rt: HostRuntime) -> Result<(), Fail> {
     let folder = "mtc_files_modes";
-    make_three(&rt, rt.alloc(), folder)?;
+    make_four(&rt, rt.alloc(), folder)?;
     let modes = [
         0o600, 0o700, 0o640, 0o620, 0o610, 0o604, 0o602, 0o601, 0o666,
     ];
     for mode in modes {
         let refused = are_refused(&rt, mode)?;
-        assert!(rt; refused == [mode & 0o77 != 0, false, false], "{mode}");
+        let is_open = mode & 0o77 != 0;
+        assert!(rt; refused == [is_open, is_open, false, false], "{mode}");
     }
     fs::remove_dir_all(&rt, folder)?;
     Ok(())

@@ -99,7 +99,8 @@ const CHANGES: &str = "\
 257 9=130 BadId
 257 9=9 3
 257 15=0 BadKey
-257 15=2 BadKey
+257 15=2 BadRecord:2
+257 15=3 BadKey
 257 19=4 BadKey
 257 19=7 BadKey
 257 19=6 3
@@ -123,7 +124,8 @@ const CHANGES: &str = "\
 257 190=2 BadRecord:3
 257 191=165 BadRecord:3
 257 225=7 BadRecord:3
-257 15=2 76=17 BadKey
+257 15=2 76=17 BadRecord:1
+257 15=3 76=17 BadKey
 257 84=0 190=2 BadRecord:1
 ";
 
@@ -192,7 +194,7 @@ fn each_fault_of_an_export_is_reported_at_its_offset(rt: HostRuntime) {
         assert!(rt; is_reported(rt.alloc(), line) == Some(true), "{line}");
         count = count.saturating_add(1);
     }
-    assert!(rt; count == 48);
+    assert!(rt; count == 50);
 }
 
 // Steps, and the answer to their export.
@@ -205,12 +207,26 @@ a:2:157:0 => BadRecord:1
 s:0:0:2:157 a:2:157 => BadRecord:1
 a:2:157 s:0:0:2:157 s:1:0:2:157 s:3:0:2:157 => BadRecord:4
 a:2:157 s:0:0:2:157 a:4:164:6 s:1:0:2:157:6 => 4
+c:0:5 => BadRecord:1
+";
+
+// The same of a key of two levels.
+const TREES: &str = "\
+c:0:5 => 1
+c:0:6 => 1
+c:0:7 => BadRecord:1
+c:1:5 => BadRecord:1
+c:0:5 c:1:5 => BadRecord:2
+a:2:157 s:0:0:2:157 => BadRecord:2
+a:2:157 c:0:5 s:1:0:2:157 => BadRecord:3
+a:2:157 c:0:5 s:0:0:2:157 => 3
+c:0:5 a:2:157 s:0:0:2:157 c:1:5 => BadRecord:4
 ";
 
 // Whether the export of the steps of a line is read as the line says.
-fn is_answered_so(alloc: Global, line: &str) -> Option<bool> {
+fn is_answered_so(alloc: Global, public: &[u8; 60], line: &str) -> Option<bool> {
     let (steps, answer) = line.split_once(" => ")?;
-    let bytes = export_of(alloc, 2, 1, &PUBLIC, steps)?;
+    let bytes = export_of(alloc, 2, 1, public, steps)?;
     Some(is_answered(alloc, bytes.as_slice(), answer))
 }
 
@@ -218,8 +234,26 @@ fn is_answered_so(alloc: Global, line: &str) -> Option<bool> {
 fn steps_are_tested_after_those_before_them(rt: HostRuntime) {
     let mut count = 0u64;
     for line in RECORDS.lines() {
-        assert!(rt; is_answered_so(rt.alloc(), line) == Some(true), "{line}");
+        assert!(rt;
+            is_answered_so(rt.alloc(), &PUBLIC, line) == Some(true),
+            "{line}"
+        );
         count = count.saturating_add(1);
     }
-    assert!(rt; count == 8);
+    assert!(rt; count == 9);
+}
+
+#[test]
+fn lower_trees_are_tested_after_the_steps_before_them(rt: HostRuntime) {
+    let mut public = PUBLIC;
+    public[3] = 2;
+    let mut count = 0u64;
+    for line in TREES.lines() {
+        assert!(rt;
+            is_answered_so(rt.alloc(), &public, line) == Some(true),
+            "{line}"
+        );
+        count = count.saturating_add(1);
+    }
+    assert!(rt; count == 9);
 }

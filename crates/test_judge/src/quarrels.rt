@@ -95,3 +95,32 @@ fn two_signatures_in_conflict_show_two_strings(rt: HostRuntime) {
     let count = count_shown(rt.alloc());
     assert!(rt; count == 16, "{count:?}");
 }
+
+// Each one-time key of a lower tree of height 5 signs one entry, and the first one of the next tree
+// signs another in its place.
+fn over_two_trees(alloc: Global) -> Option<String> {
+    let mut steps = String::new(alloc);
+    steps.push_str("c:0:5 a:2:8").ok()?;
+    for index in 0..32u32 {
+        let sign = format!(in alloc; " s:{index}:0:1:5:2").ok()?;
+        steps.push_str(sign.as_str()).ok()?;
+    }
+    steps
+        .push_str(" c:1:5 s:32:0:1:4:3|0 32 node:5:2 node:4:3")
+        .ok()?;
+    Some(steps)
+}
+
+fn is_shown_over_two_trees(alloc: Global) -> Option<bool> {
+    let line = over_two_trees(alloc)?;
+    let (steps, words) = line.as_str().split_once('|')?;
+    let mut public = PUBLIC;
+    public[3] = 2;
+    let export = export_of(alloc, 2, 1, &public, steps)?;
+    Some(is(&shown(alloc, export.as_slice()), words))
+}
+
+#[test]
+fn signatures_by_two_lower_trees_are_in_conflict(rt: HostRuntime) {
+    assert!(rt; is_shown_over_two_trees(rt.alloc()) == Some(true));
+}

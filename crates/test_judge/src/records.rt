@@ -70,9 +70,24 @@ fn put_head<'a>(bytes: &mut Bytes, word: &'a str) -> Option<&'a str> {
     put_start(bytes, fields)
 }
 
+// Appends the body of a Child to the bytes, by its number and the typecode of its tree.
+fn put_child(bytes: &mut Bytes, fields: &str) -> Option<()> {
+    let (number, typecode) = cut(fields);
+    bytes.append(&[0x14]).ok()?;
+    bytes
+        .append(&number.parse::<u32>().ok()?.to_be_bytes())
+        .ok()?;
+    bytes
+        .append(&typecode.parse::<u32>().ok()?.to_be_bytes())
+        .ok()
+}
+
 // Appends the body of the record of a step to the bytes: `a:SIZE:ROOT` and the hashes of the proof,
-// or `s:INDEX:START:END:HASH` and these.
+// or `s:INDEX:START:END:HASH` and these, or `c:NUMBER:TYPECODE`.
 fn put_body(alloc: Global, bytes: &mut Bytes, word: &str) -> Option<()> {
+    if let Some(fields) = word.strip_prefix("c:") {
+        return put_child(bytes, fields);
+    }
     let rest = put_head(bytes, word)?;
     let (sum, hashes) = cut(put_number(bytes, rest)?);
     put_hash(bytes, sum)?;

@@ -67,8 +67,8 @@ pub(crate) fn ids(alloc: Global) -> Result<(AnchorId, AnchorId), Memory> {
     Ok((id(alloc, "32473.2")?, log))
 }
 
-// 16 bytes of 2 are the identifier, and 32 of 7 the seed.
-fn secret() -> Option<Secret> {
+/// 16 bytes of 2 are the identifier, and 32 of 7 the seed.
+pub(crate) fn secret() -> Option<Secret> {
     let mut bytes = [7; SECRET_LEN];
     bytes[..16].copy_from_slice(&[2; 16]);
     Secret::from_slice(&bytes)
@@ -85,6 +85,7 @@ pub(crate) fn begin<D: Disk + Drop>(
         id,
         log,
         lms: LmsType::H5,
+        low: None,
         ots: OtsType::W4,
     };
     Ok(match create(alloc, disk, &settings, &secret) {

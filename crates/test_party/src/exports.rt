@@ -48,8 +48,8 @@ fn export(cosigner: &mut MemCosigner, out: &mut MemSink) -> Result<(), ExportErr
     cosigner.export(out)
 }
 
-// The export of a cosigner, to a sink that takes so much a call.
-fn text_of(
+/// The export of a cosigner, to a sink that takes so much a call.
+pub(crate) fn text_of(
     alloc: Global,
     cosigner: &mut MemCosigner,
     per_call: usize,
@@ -91,12 +91,12 @@ fn is_the_cosigner(export: &Export) -> bool {
         && last_signed(export.steps.as_slice()) == (1, 4, 6)
 }
 
-fn read(alloc: Global, text: &[u8]) -> Result<Option<Export>, ReadExportError> {
+pub(crate) fn read(alloc: Global, text: &[u8]) -> Result<Option<Export>, ReadExportError> {
     read_export::<Sha>(alloc, text)
 }
 
-// What an export is read as: the number of its steps, none for no export, or why it is refused.
-fn steps_of(alloc: Global, text: &[u8]) -> Result<Option<usize>, ReadExportError> {
+/// What an export is read as: the number of its steps, none for no export, or why it is refused.
+pub(crate) fn steps_of(alloc: Global, text: &[u8]) -> Result<Option<usize>, ReadExportError> {
     match read(alloc, text) {
         Ok(Some(export)) => Ok(Some(export.steps.as_slice().len())),
         Ok(None) => Ok(None),
@@ -167,12 +167,13 @@ fn steps_with(
 
 #[test]
 fn each_part_of_an_export_is_tested(rt: HostRuntime) -> Result<(), Fail> {
-    let cases: [(usize, u8, ReadExportError); 9] = [
+    let cases: [(usize, u8, ReadExportError); 10] = [
         (1, 0x80, ReadExportError::BadId),
         (6, 0x80, ReadExportError::BadId),
         (11, 59, ReadExportError::BadKey),
         (11, 61, ReadExportError::BadKey),
-        (15, 2, ReadExportError::BadKey),
+        (15, 3, ReadExportError::BadKey),
+        (15, 2, ReadExportError::BadRecord(3)),
         (19, 7, ReadExportError::BadKey),
         (75, 0, ReadExportError::BadRecord(1)),
         (76, 0x13, ReadExportError::BadRecord(1)),
@@ -281,8 +282,8 @@ fn a_failed_append_is_not_exported(rt: HostRuntime) -> Result<(), Fail> {
     Ok(())
 }
 
-// The body of an Advance to the one entry of a log.
-fn advance_body(hash: &[u8; 32]) -> [u8; 43] {
+/// The body of an Advance to the one entry of a log.
+pub(crate) fn advance_body(hash: &[u8; 32]) -> [u8; 43] {
     let mut body = [0; 43];
     body[0] = 0x12;
     body[8] = 1;
@@ -290,8 +291,8 @@ fn advance_body(hash: &[u8; 32]) -> [u8; 43] {
     body
 }
 
-// That of a Sign of it.
-fn sign_body(index: u32, hash: &[u8; 32]) -> [u8; 55] {
+/// That of a Sign of it.
+pub(crate) fn sign_body(index: u32, hash: &[u8; 32]) -> [u8; 55] {
     let mut body = [0; 55];
     body[0] = 0x13;
     body[1..5].copy_from_slice(&index.to_be_bytes());
@@ -322,6 +323,7 @@ fn packed(alloc: Global) -> Result<FirstRecord, Memory> {
         id,
         log,
         lms: LmsType::H10,
+        low: None,
         ots: OtsType::W1,
     };
     pack(alloc, &settings, &secret)

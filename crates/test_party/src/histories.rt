@@ -19,11 +19,19 @@ const ADVANCE: [u8; 43] = [
     7, 7, 7, 7, 7, 7, 7, 7, 7, 7, 0, 0,
 ];
 
+// A Sign of that entry by the first one-time key.
+const SIGN: [u8; 55] = [
+    0x13, 0, 0, 0, 0, 0, 0, 0, 0, 0, 0, 0, 0, 0, 0, 0, 0, 0, 0, 0, 1, 7, 7, 7, 7, 7, 7, 7, 7, 7, 7,
+    7, 7, 7, 7, 7, 7, 7, 7, 7, 7, 7, 7, 7, 7, 7, 7, 7, 7, 7, 7, 7, 7, 0, 0,
+];
+
 // What a party does.
 #[derive(Clone, Copy)]
 enum Action {
     Mark,
     Advance,
+    Sign,
+    Child(u8),
     MakeDurable,
     Release,
     Stop(bool),
@@ -38,6 +46,15 @@ fn step_of(alloc: Global, party: u32, action: Action) -> Result<PartyStep, Memor
         Action::Advance => PartyStep::Begin {
             party,
             body: Bytes::copy_of(alloc, &ADVANCE)?,
+        },
+        Action::Sign => PartyStep::Begin {
+            party,
+            body: Bytes::copy_of(alloc, &SIGN)?,
+        },
+        // A lower tree of height 5.
+        Action::Child(number) => PartyStep::Begin {
+            party,
+            body: Bytes::copy_of(alloc, &[0x14, 0, 0, 0, number, 0, 0, 0, 5])?,
         },
         Action::MakeDurable => PartyStep::MakeDurable { party },
         Action::Release => PartyStep::Release { party },
@@ -57,12 +74,13 @@ fn log(alloc: Global) -> Result<PartyStart, Fail> {
     }))
 }
 
-fn cosigner(alloc: Global) -> Result<PartyStart, Fail> {
+fn cosigner(alloc: Global, low: Option<LmsType>) -> Result<PartyStart, Fail> {
     Ok(PartyStart::Cosigner {
         settings: CosignerSettings {
             id: id(alloc, "32473.2")?,
             log: id(alloc, "32473.1")?,
             lms: LmsType::H5,
+            low,
             ots: OtsType::W4,
         },
         public: [0; 60],
@@ -111,7 +129,7 @@ fn counts(
     alloc: Global,
     actions: &[(u32, Action)],
 ) -> Result<Result<(Counts, Counts), HistoryError>, Fail> {
-    let starts = [log(alloc)?, cosigner(alloc)?];
+    let starts = [log(alloc)?, cosigner(alloc, None)?];
     match states(alloc, &starts, actions)? {
         Err(why) => Ok(Err(why)),
         Ok(states) => match states.as_slice() {
@@ -201,8 +219,89 @@ fn steps_are_allowed_or_reported(rt: HostRuntime) -> Result<(), Fail> {
 
 #[test]
 fn one_cosigner_has_nothing_pending(rt: HostRuntime) -> Result<(), Fail> {
-    let starts = [cosigner(rt.alloc())?];
+    let starts = [cosigner(rt.alloc(), None)?];
     let ends = states(rt.alloc(), &starts, &[(0, Action::MakeDurable)])?;
     assert!(rt; ends.err() == Some(HistoryError::NotAStep(0)));
+    Ok(())
+}
+
+// The same of a cosigner alone, by the height of its lower trees if it has any.
+fn counts_alone(
+    alloc: Global,
+    low: Option<LmsType>,
+    actions: &[(u32, Action)],
+) -> Result<Result<Counts, HistoryError>, Fail> {
+    match states(alloc, &[cosigner(alloc, low)?], actions)? {
+        Err(why) => Ok(Err(why)),
+        Ok(states) => match states.as_slice() {
+            [state] => Ok(Ok(counts_of(state))),
+            _ => Err(Fail::from("nodes are missing")),
+        },
+    }
+}
+
+#[test]
+fn a_lower_tree_is_a_step(rt: HostRuntime) -> Result<(), Fail> {
+    let low = Some(LmsType::H5);
+    let cases: [(
+        Option<LmsType>,
+        &[(u32, Action)],
+        Result<Counts, HistoryError>,
+    ); 6] = [
+        (
+            None,
+            &[(0, Action::Child(0))],
+            Err(HistoryError::NotAStep(0)),
+        ),
+        (
+            low,
+            &[(0, Action::Child(1))],
+            Err(HistoryError::NotAStep(0)),
+        ),
+        (
+            Some(LmsType::H10),
+            &[(0, Action::Child(0))],
+            Err(HistoryError::NotAStep(0)),
+        ),
+        (
+            low,
+            &[
+                (0, Action::Child(0)),
+                (0, Action::MakeDurable),
+                (0, Action::Child(1)),
+            ],
+            Err(HistoryError::NotAStep(2)),
+        ),
+        (
+            low,
+            &[
+                (0, Action::Advance),
+                (0, Action::MakeDurable),
+                (0, Action::Sign),
+            ],
+            Err(HistoryError::NotAStep(2)),
+        ),
+        (
+            low,
+            &[
+                (0, Action::Advance),
+                (0, Action::MakeDurable),
+                (0, Action::Child(0)),
+                (0, Action::MakeDurable),
+                (0, Action::Release),
+                (0, Action::Sign),
+                (0, Action::MakeDurable),
+                (0, Action::Release),
+            ],
+            Ok((3, 2, 3)),
+        ),
+    ];
+    for (low, actions, wanted) in cases {
+        assert!(rt;
+            counts_alone(rt.alloc(), low, actions)? == wanted,
+            "{} steps",
+            actions.len()
+        );
+    }
     Ok(())
 }

@@ -1,4 +1,5 @@
-//! Cases over parties: over logs, over cosigners, and over histories of both.
+//! Cases over parties: over logs, over cosigners, over histories of both, and over
+//! mirrors.
 #![tactic(auto)]
 
 #[cfg(test)]
@@ -22,12 +23,20 @@ mod log_openings;
 #[cfg(test)]
 mod logs;
 #[cfg(test)]
+mod lower_trees;
+#[cfg(test)]
 mod marks;
+#[cfg(test)]
+mod mirrors;
+#[cfg(test)]
+mod rebuilds;
 #[cfg(test)]
 mod refusals;
 #[cfg(test)]
 mod switches;
 #[cfg(test)]
 mod tiles;
+#[cfg(test)]
+mod two_levels;
 #[cfg(test)]
 mod walks;

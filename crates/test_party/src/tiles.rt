@@ -53,6 +53,11 @@ fn grown(alloc: Global, size: u64) -> Result<Option<MemLog>, Memory> {
     Ok(if filled { Some(log) } else { None })
 }
 
+/// The journal of a log of so many entries, without tiles.
+pub(crate) fn log_of(alloc: Global, size: u64) -> Result<Option<MemDisk>, Memory> {
+    Ok(grown(alloc, size)?.map(disk_of))
+}
+
 // A node; none of what the nodes have not.
 fn node<N: Nodes>(nodes: &mut N, level: u32, place: u64) -> Option<Result<[u8; 32], Failed>> {
     let size = nodes.size();
@@ -62,8 +67,8 @@ fn node<N: Nodes>(nodes: &mut N, level: u32, place: u64) -> Option<Result<[u8; 3
     Some(nodes.node(level, place))
 }
 
-// The two files of a log of so many entries, tiled.
-fn files(alloc: Global, size: u64) -> Result<Option<(MemDisk, MemDisk)>, Memory> {
+/// The two files of a log of so many entries, tiled.
+pub(crate) fn files(alloc: Global, size: u64) -> Result<Option<(MemDisk, MemDisk)>, Memory> {
     let Some(mut log) = grown(alloc, size)? else {
         return Ok(None);
     };
@@ -82,8 +87,8 @@ fn size_over(
     Ok(size_or_reason(answer))
 }
 
-// So many numbers of calls from this one on.
-fn calls_from(alloc: Global, call: u64, count: u64) -> Result<Vec<u64>, Memory> {
+/// So many numbers of calls from this one on.
+pub(crate) fn calls_from(alloc: Global, call: u64, count: u64) -> Result<Vec<u64>, Memory> {
     let mut failing = Vec::new(alloc);
     for number in call..call.saturating_add(count) {
         failing.push(number)?;

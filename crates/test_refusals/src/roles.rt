@@ -2,7 +2,7 @@
 
 use crate::shown::shown;
 use authority_core::{Field, IssueError, RequestError, RequestListError, SeveralError, WriteError};
-use cosigner_core::{CosignError, FormError, ReadExportError};
+use cosigner_core::{ChildError, CosignError, FormError, ReadExportError};
 use issuance_log::LogError;
 use journal_core::AppendError;
 use monitor_core::{MonitorError, TextError};
@@ -127,6 +127,7 @@ NotNewer 4
 BadSubtree
 Beyond 4
 BadProof
+NeedsChild
 Exhausted
 Broken
 JournalFull
@@ -141,12 +142,38 @@ fn steps(rt: HostRuntime) -> Result<(), Fail> {
         CosignError::BadSubtree,
         CosignError::Beyond(4),
         CosignError::BadProof,
+        CosignError::NeedsChild,
         CosignError::Exhausted,
         CosignError::Append(AppendError::Broken),
         CosignError::Append(AppendError::Full),
         CosignError::Append(AppendError::Failed),
     ];
     assert!(rt; shown(rt.alloc(), &list)?.as_str() == STEP);
+    Ok(())
+}
+
+const CHILD: &str = "\
+OneLevel
+ChildLeft 32
+Exhausted
+Broken
+JournalFull
+Failed
+Memory
+";
+
+#[test]
+fn children(rt: HostRuntime) -> Result<(), Fail> {
+    let list = [
+        ChildError::OneLevel,
+        ChildError::ChildLeft(32),
+        ChildError::Exhausted,
+        ChildError::Append(AppendError::Broken),
+        ChildError::Append(AppendError::Full),
+        ChildError::Append(AppendError::Failed),
+        ChildError::Memory,
+    ];
+    assert!(rt; shown(rt.alloc(), &list)?.as_str() == CHILD);
     Ok(())
 }
 

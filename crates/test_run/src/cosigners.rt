@@ -123,7 +123,7 @@ fn commands_of_a_cosigner(rt: HostRuntime) {
 }
 
 // Whether these are so many bytes with this SHA-256 in hexadecimal.
-fn are_known(alloc: Global, bytes: &[u8], (length, hash): (usize, &str)) -> bool {
+pub(crate) fn are_known(alloc: Global, bytes: &[u8], (length, hash): (usize, &str)) -> bool {
     let mut running = Sha::begin();
     running.add(bytes);
     match hex::encode(alloc, &running.end()) {
@@ -133,7 +133,7 @@ fn are_known(alloc: Global, bytes: &[u8], (length, hash): (usize, &str)) -> bool
 }
 
 // What a run printed: its output, and where it ended with another status than 0 its errors.
-fn printed(answer: &Answer) -> &[u8] {
+pub(crate) fn printed(answer: &Answer) -> &[u8] {
     if answer.status == 0 {
         answer.out.taken()
     } else {
@@ -142,7 +142,7 @@ fn printed(answer: &Answer) -> &[u8] {
 }
 
 // Whether `cosign` ends with this status, and what it prints and leaves in the journal is known.
-fn cosigns(
+pub(crate) fn cosigns(
     alloc: Global,
     desk: &mut Desk,
     status: u8,
@@ -246,7 +246,7 @@ fn status_in(
 
 // The first of 16 calls at which a command ends in another way than it has to, where it makes so
 // many.
-fn wrong_call(
+pub(crate) fn wrong_call(
     alloc: Global,
     words: &str,
     journal: &str,

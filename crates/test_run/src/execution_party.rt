@@ -92,6 +92,7 @@ fn start_of_cosigner(alloc: Global) -> Result<PartyStart, Difference> {
             id: id(alloc, "32473.2")?,
             log,
             lms: LmsType::H5,
+            low: None,
             ots: OtsType::W1,
         },
         public: PUBLIC,

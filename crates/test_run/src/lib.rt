@@ -68,6 +68,8 @@ mod tiles;
 #[cfg(test)]
 mod trust;
 #[cfg(test)]
+mod two_levels;
+#[cfg(test)]
 mod watching;
 #[cfg(test)]
 mod words;

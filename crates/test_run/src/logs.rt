@@ -62,7 +62,7 @@ $ checkpoint j
 | root 709e80c88487a2411e1ee4dfb9f22a861492d20c4765150c0c794abd70f8147c
 
 case the other end
-$ init-log j 32473.1 10000 1048576
+$ init-log j 32473.1 10000 16777216
 | log 32473.1
 $ checkpoint j
 | size 1
@@ -227,7 +227,7 @@ status 1
 gone j
 
 case a limit that is too large
-$ init-log j 32473.1 2 1048577
+$ init-log j 32473.1 2 16777217
 status 1
 ! mtc: init-log: BadNumber 4
 gone j

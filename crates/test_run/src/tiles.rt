@@ -1,4 +1,5 @@
-//! What `tile` answers, and what the commands on a log answer to the file of its tiles.
+//! What `tile` and `tile-anew` answer, and what the commands on a log answer to the file of its
+//! tiles.
 
 use crate::scripts::{Outcome, outcome_after};
 use crate::texts::Unread;
@@ -171,6 +172,150 @@ fn tiles_are_stored_beside_a_log(rt: HostRuntime) {
     assert!(rt; outcome == Ok(Outcome::Passed(30)), "{outcome:?}");
 }
 
+// The leaf hashes of the null entry and of the item; and the record of the tiles of 512 entries.
+const REBUILT: &str = r#"
+name FIRST 709e80c88487a2411e1ee4dfb9f22a861492d20c4765150c0c794abd70f8147c
+name LEAF 7edfd5e2318a6de081fe8ee5e0a629335e6f6fd825fbe9f7111be6a8d243d161
+name BOTH 0100000009040000000000000200
+
+# The file of the tiles is lost. They are written again, and the journal stays as it was.
+file j SETTINGS
+times 255 ITEM
+ TILED
+times 44 ITEM
+ 00
+gone j.tiles
+$ tile-anew j
+| tiled 256
+left j.tiles FIRST
+times 255 LEAF
+left j SETTINGS
+times 255 ITEM
+ TILED
+times 44 ITEM
+ 00
+$ cert j 1 0 256 none
+> c
+$ tile j
+status 4
+! mtc: tile: NothingNew
+
+# It is empty, cut, or changed in its first or last byte.
+file j.tiles
+$ checkpoint j
+status 2
+! mtc: checkpoint: j.tiles: BadTile 0 0
+$ tile-anew j
+| tiled 256
+left j.tiles FIRST
+times 255 LEAF
+again j.tiles
+cut 100
+$ tile-anew j
+| tiled 256
+left j.tiles FIRST
+times 255 LEAF
+again j.tiles
+byte 0 71
+$ tile-anew j
+| tiled 256
+left j.tiles FIRST
+times 255 LEAF
+again j.tiles
+byte 8191 60
+$ tile-anew j
+| tiled 256
+left j.tiles FIRST
+times 255 LEAF
+$ cert j 1 0 256 none
+> d
+same c d
+
+# It has them all, and bytes after them stay, also of another file.
+$ tile-anew j
+| tiled 256
+again j.tiles
+ 00
+$ tile-anew j
+| tiled 256
+left j.tiles FIRST
+times 255 LEAF
+ 00
+file j.tiles
+times 300 LEAF
+$ tile-anew j
+| tiled 256
+left j.tiles FIRST
+times 299 LEAF
+
+# The second of two tiles isn't there, or is another one, or both are.
+file j SETTINGS
+times 255 ITEM
+ TILED
+times 256 ITEM
+ BOTH 00
+$ tile-anew j
+| tiled 512
+left j.tiles FIRST
+times 511 LEAF
+$ checkpoint j
+| size 512
+| root 6d0a2d1ba4e0f5fa3da1d5f3a971f52138c7c8fe6a522849b21d16b7bedf720b
+again j.tiles
+byte 8192 7f
+$ tile-anew j
+| tiled 512
+left j.tiles FIRST
+times 511 LEAF
+file j.tiles
+times 600 00
+$ tile-anew j
+| tiled 512
+left j.tiles FIRST
+times 511 LEAF
+
+# A log that has recorded no tiles, also where they are full: its file stays as it is.
+file n SETTINGS
+times 300 ITEM
+ 00
+file n.tiles deadbeef
+$ tile-anew n
+status 4
+! mtc: tile-anew: NothingNew
+left n.tiles deadbeef
+$ init-log l 32473.1 2 64
+| log 32473.1
+$ tile-anew l
+status 4
+! mtc: tile-anew: NothingNew
+left l.tiles
+
+# A file that is no log.
+file k 6d74632d6a6f75726e616c2f76310a00 00
+$ tile-anew k
+status 2
+! mtc: tile-anew: k: BadRecord 0
+left k.tiles
+file m 6d74632d6a6f75726e616c2f76310a01 00
+$ tile-anew m
+status 2
+! mtc: tile-anew: m: NotJournal
+gone m.tiles
+$ tile-anew o
+status 7
+! mtc: tile-anew: o: Absent
+gone o.tiles
+$ tile-anew j.tiles
+status 1
+! mtc: tile-anew: TilesName 1
+"#;
+
+#[test]
+fn tiles_are_written_again(rt: HostRuntime) {
+    let outcome = outcome_after(rt.alloc(), NAMES, REBUILT);
+    assert!(rt; outcome == Ok(Outcome::Passed(23)), "{outcome:?}");
+}
+
 // A case is what comes before the run in which a call of the file of tiles fails, the arguments of
 // this run, and what it prints where none fails.
 type Case = (&'static str, &'static str, &'static str);
@@ -187,6 +332,12 @@ const ISSUE: Case = (
     "$ tile j\n| tiled 256\nagain j.tiles",
     "issue j r",
     "| issued 256",
+);
+
+const LOST: Case = (
+    "$ tile j\n| tiled 256\nfile j.tiles",
+    "tile-anew j",
+    "| tiled 256",
 );
 
 // The script of a case where a call fails, and the run is made once more.
@@ -226,10 +377,10 @@ fn wrong_call(alloc: Global, case: Case, calls: u64) -> Option<u64> {
 }
 
 // Tiles are synced, written and synced; or their file's length and a tile are read, and the tile
-// once more for a path.
+// once more for a path; or the length of an empty file is read twice, and then the tile is stored.
 #[test]
 fn a_file_of_tiles_fails(rt: HostRuntime) {
-    for (case, calls) in [(TILE, 3), (CERT, 3), (ISSUE, 2)] {
+    for (case, calls) in [(TILE, 3), (CERT, 3), (ISSUE, 2), (LOST, 5)] {
         let wrong = wrong_call(rt.alloc(), case, calls);
         assert!(rt; wrong == None, "{} at {wrong:?}", case.1);
     }

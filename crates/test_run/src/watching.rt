@@ -119,6 +119,10 @@ const HELD: &str = r#"
 name HEAD 0481fd59020481fd5901003c
   0000000100000005 00000003000102030405060708090a0b0c0d0e0f
   661aeb1d85e6a993e0e55bbbad2564f1b45e3e1ba8b9b4c917e993ebbdaf19e2
+name WIDE 0481fd59020481fd5901003c
+  0000000200000005 00000003000102030405060708090a0b0c0d0e0f
+  661aeb1d85e6a993e0e55bbbad2564f1b45e3e1ba8b9b4c917e993ebbdaf19e2
+name CHILD 00000009140000000000000005
 name ADVANCE 0000002b120000000000000400 ROOT 0000
 name SIGN 00000037130000000000000000000000000000000000000400 ROOT 0000
 name PARTY
@@ -161,6 +165,28 @@ $ held x
 | signed 0 0 1024 77566825cd25f263271e3fa5341db28ed2c87945ee98f731b2aa96b9e6b11cf6
 left x HEAD ADVANCE SIGN
 
+case before its first lower tree it isn't known how many keys a cosigner of two levels has
+file x WIDE
+$ held x
+| cosigner 32473.2
+| log 32473.1
+| key AAAAAgAAAAUAAAADAAECAwQFBgcICQoLDA0OD2Ya6x2F5qmT4OVbu60lZPG0Xj4bqLm0yRfpk+u9rxni
+| size 0
+| root e3b0c44298fc1c149afbf4c8996fb92427ae41e4649b934ca495991b7852b855
+| signs 0
+
+case a cosigner of two levels has the keys of all its lower trees
+file x WIDE ADVANCE CHILD SIGN
+$ held x
+| cosigner 32473.2
+| log 32473.1
+| key AAAAAgAAAAUAAAADAAECAwQFBgcICQoLDA0OD2Ya6x2F5qmT4OVbu60lZPG0Xj4bqLm0yRfpk+u9rxni
+| size 1024
+| root 77566825cd25f263271e3fa5341db28ed2c87945ee98f731b2aa96b9e6b11cf6
+| signs 1
+| left 1023
+| signed 0 0 1024 77566825cd25f263271e3fa5341db28ed2c87945ee98f731b2aa96b9e6b11cf6
+
 case what is no export says nothing
 $ held x
 status 7
@@ -178,7 +204,7 @@ status 2
 #[test]
 fn held(rt: HostRuntime) {
     let outcome = outcome_after(rt.alloc(), GIVEN, HELD);
-    assert!(rt; outcome == Ok(Outcome::Passed(7)), "{outcome:?}");
+    assert!(rt; outcome == Ok(Outcome::Passed(9)), "{outcome:?}");
 }
 
 const MONITORS: &str = r#"

@@ -30,7 +30,7 @@ verify c s -1 => BadWord 3
 verify c s 253402300800 => BadNumber 3
 init-log j 01 2 64 => BadId 2
 init-log j 01 2 1 => BadNumber 4
-init-log j 32473.1 10001 1048577 => BadNumber 3
+init-log j 32473.1 10001 16777217 => BadNumber 3
 entries j x => BadNumber 2
 entries-from j 1 => WrongCount 2 3
 entries-from j x 01 => BadNumber 2
@@ -42,7 +42,17 @@ init-cosigner s 01 01 5 3 k => BadNumber 5
 init-cosigner s 01 01 5 4 k => BadId 2
 init-cosigner s 32473.2 01 10 8 k => BadId 3
 init-cosigner s 32473.2 32473.1 5 4 => WrongCount 5 6
+init-cosigner2 s 01 32473.1 6 7 4 k => BadNumber 4
+init-cosigner2 s 01 01 5 7 3 k => BadNumber 5
+init-cosigner2 s 01 01 5 10 3 k => BadNumber 6
+init-cosigner2 s 01 01 10 5 1 k => BadId 2
+init-cosigner2 s 32473.2 01 10 10 8 k => BadId 3
+init-cosigner2 s 32473.2 32473.1 5 5 4 => WrongCount 6 7
+init-cosigner2 s.tiles 32473.2 32473.1 5 5 4 k => TilesName 1
 advance s => WrongCount 1 2
+child => WrongCount 0 1
+child s r => WrongCount 2 1
+child s.tiles => TilesName 1
 cosign s r t => WrongCount 3 2
 advance s -r => BadWord 2
 cert j 1 0 4 => WrongCount 4 5
@@ -61,6 +71,10 @@ tile => WrongCount 0 1
 tile -j => BadWord 1
 tile j.tiles => TilesName 1
 tile .tiles => TilesName 1
+tile-anew => WrongCount 0 1
+tile-anew j k => WrongCount 2 1
+tile-anew -j => BadWord 1
+tile-anew j.tiles => TilesName 1
 switch => WrongCount 0 1
 switch j k => WrongCount 2 1
 switch -j => BadWord 1
@@ -127,7 +141,7 @@ fn arguments_are_refused_by_their_first_fault(rt: HostRuntime) {
         assert!(rt; is_refused(rt.alloc(), line) == Some(true), "{line}");
         count = count.saturating_add(1);
     }
-    assert!(rt; count == 72);
+    assert!(rt; count == 86);
 }
 
 #[test]

@@ -7,6 +7,7 @@
 //! device NAME     the file whose device stops
 //! journal NAME    the command's journal
 //! limit N         how many entries its log may have, if it is that of a log and not new
+//! lower           if it is that of a cosigner, that its key has lower trees
 //! tiled BYTES     the journal when the tiles were stored that it has at first
 //! old BYTES       its header and its records at first, without the commit byte that closes it
 //! record BYTES    the record, with its commit byte
@@ -18,6 +19,8 @@
 //! after BYTES     what its output begins with if the record is there, and
 //! after| TEXT     a line of that, or
 //! after! TEXT     what it reports, with status 4
+//! signed BYTES    a public key and a message, if each output is a signature of it, after the
+//!                 cosigner's id and a length of two bytes
 //! from N          how many calls the device passes at the first of these stops; 0 if it isn't said
 //! stops N ..      how many of sixteen crash states have the record, after each stop
 //! then N          how many have it after the run that comes next, and doesn't stop
@@ -211,4 +214,64 @@ before 0481fd590221f0 00000000 00000000
 after 0481fd590221f0 00000000 00000001
 from 4
 stops 8
+";
+
+/// A key with lower trees has none at first.
+pub const NEW_COSIGNER_2: &str = "
+run init-cosigner2 s 32473.2 32473.1 5 5 1 f
+device s
+journal s
+old HEADER
+record COSIGNER_2
+ask child s
+after| child 0
+stops 0 0 0 8
+then 16
+";
+
+/// What is left is asked for its next lower tree.
+pub const CHILD: &str = "
+run child s
+device s
+journal s
+lower trees
+old HEADER COSIGNER_2 01 ADVANCE
+record 01 CHILD
+ask child s
+before| child 0
+after! mtc: child: ChildLeft 32
+stops 0 0 0 0 8
+then 16
+";
+
+/// The next signature is by the first key of the lower tree, if that is there.
+pub const CHILD_SIGNS: &str = "
+run child s
+device s
+journal s
+lower trees
+old HEADER COSIGNER_2 01 ADVANCE
+record 01 CHILD
+ask cosign s t
+before! mtc: cosign: NeedsChild
+after 0481fd59024414 00000001 00000000
+signed KEY_2 MESSAGE
+from 4
+stops 8
+then 16
+";
+
+/// A signature takes a key of the lower tree.
+pub const COSIGN_2: &str = "
+run cosign s t
+device s
+journal s
+lower trees
+old HEADER COSIGNER_2 01 ADVANCE 01 CHILD
+record 01 SIGN
+ask child s
+before! mtc: child: ChildLeft 32
+after! mtc: child: ChildLeft 31
+stops 0 0 0 0 8
+then 16
 ";

@@ -4,7 +4,8 @@ use std::alloc::Global;
 
 // What a name represents, in hexadecimal. The values are those of an implementation that was
 // written apart from the program. LOG and LONG are the first records of log 32473.1 with 2 active
-// landmarks, and at most 64 or 1,024 entries. ITEM is the item of ENTRY, as a Batch has it.
+// landmarks, and at most 64 or 1,024 entries. ITEM is the item of ENTRY, as a Batch has it. KEY_2
+// is the public key of COSIGNER_2, and MESSAGE what this one signs where ALL asks for it.
 const NAMES: &str = "
 HEADER 6d74632d6a6f75726e616c2f76310a00
 LOG 010000000e010481fd59010000000200000040
@@ -33,6 +34,13 @@ TO_1024 0481fd59010000000000000400 \
 77566825cd25f263271e3fa5341db28ed2c87945ee98f731b2aa96b9e6b11cf6 0000
 ALL 0481fd590100000000000000000000000000000400 \
 77566825cd25f263271e3fa5341db28ed2c87945ee98f731b2aa96b9e6b11cf6 0000
+COSIGNER_2 0100000047150481fd59020481fd5901000000050000000500000001 \
+000102030405060708090a0b0c0d0e0f 101112131415161718191a1b1c1d1e1f202122232425262728292a2b2c2d2e2f
+CHILD 00000009140000000000000005
+KEY_2 000000020000000500000001 000102030405060708090a0b0c0d0e0f \
+a8664067560a77f7c00d2a0bed57b441c83745aef846c2f262f81941b396e652
+MESSAGE 6d74632d737562747265652f76310a00 0481fd59020481fd5901 00000000000000000000000000000400 \
+77566825cd25f263271e3fa5341db28ed2c87945ee98f731b2aa96b9e6b11cf6
 ";
 
 /// What follows a word in the first line that begins with it; nothing if there is no such line.
@@ -78,6 +86,13 @@ pub fn coded(alloc: Global, words: &str) -> Option<Vec<u8>> {
     for word in words.split_whitespace() {
         append_word(alloc, &mut bytes, word)?;
     }
+    Some(bytes)
+}
+
+/// The journal with the records of a line of a case.
+pub fn journal_of(alloc: Global, case: &str, key: &str) -> Option<Vec<u8>> {
+    let mut bytes = coded(alloc, field(case, key))?;
+    bytes.push(0).ok()?;
     Some(bytes)
 }
 

@@ -12,4 +12,6 @@ mod files;
 #[cfg(test)]
 mod model;
 #[cfg(test)]
+mod rebuilding;
+#[cfg(test)]
 mod stops;

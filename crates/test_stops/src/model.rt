@@ -91,11 +91,12 @@ fn log_start(log: AnchorId, limit: u32) -> Option<PartyStart> {
     }))
 }
 
-fn cosigner_start(alloc: Global, log: AnchorId) -> Option<PartyStart> {
+fn cosigner_start(alloc: Global, log: AnchorId, low: Option<LmsType>) -> Option<PartyStart> {
     let settings = CosignerSettings {
         id: AnchorId::from_text(alloc, "32473.2").ok()?,
         log,
         lms: LmsType::H5,
+        low,
         ots: OtsType::W1,
     };
     Some(PartyStart::Cosigner {
@@ -104,11 +105,19 @@ fn cosigner_start(alloc: Global, log: AnchorId) -> Option<PartyStart> {
     })
 }
 
+// The height of the lower trees of a case's cosigner, if its key has some.
+fn lower_of(case: &str) -> Option<LmsType> {
+    match field(case, "lower") {
+        "" => None,
+        _ => Some(LmsType::H5),
+    }
+}
+
 // How the party of a case begins: a log has a limit, and a cosigner has none.
 fn start_of(alloc: Global, case: &str) -> Option<PartyStart> {
     let log = AnchorId::from_text(alloc, "32473.1").ok()?;
     match field(case, "limit") {
-        "" => cosigner_start(alloc, log),
+        "" => cosigner_start(alloc, log, lower_of(case)),
         limit => log_start(log, limit.parse::<u32>().ok()?),
     }
 }

@@ -1,12 +1,13 @@
 //! Each stop of a command, and sixteen of the crash states that it may leave.
 
 use crate::cases::{
-    ADVANCE, COSIGN, COSIGN_AGAIN, ISSUE, ISSUE_LIST, LANDMARK, NEW_COSIGNER, NEW_LOG, SWITCH,
-    TILE, TILE_COMMIT, TILES,
+    ADVANCE, CHILD, CHILD_SIGNS, COSIGN, COSIGN_2, COSIGN_AGAIN, ISSUE, ISSUE_LIST, LANDMARK,
+    NEW_COSIGNER, NEW_COSIGNER_2, NEW_LOG, SWITCH, TILE, TILE_COMMIT, TILES,
 };
-use crate::coded::{coded, field, lines, numbers};
+use crate::coded::{coded, field, journal_of, lines, numbers};
 use crate::files::{Answer, CrashState, Files, Stopped};
 use crate::model::Model;
+use hss_core::{PUBLIC_KEY_LEN, verify};
 use std::alloc::Global;
 
 const REQUEST: &str = "not_before = \"2026-01-01T00:00:00Z\"
@@ -15,12 +16,28 @@ dns = [\"a.example\"]
 key = \"MCowBQYDK2VwAyEAAAAAAAAAAAAAAAAAAAAAAAAAAAAAAAAAAAAAAAAAAAA=\"
 ";
 
+// A cosigner's id and the length of its signature have so many bytes before the signature.
+const BEFORE_SIGNATURE: usize = 7;
+
 // What a command answers that opens a file: what its output begins with, or what it reports if that
-// is nothing.
+// is nothing; and if the output is a signature, its public key with its message.
 #[derive(Drop)]
 struct Wanted {
     out: Vec<u8>,
     report: Vec<u8>,
+    signed: Vec<u8>,
+}
+
+// Whether an output has a signature of this message, after its public key.
+fn has_signature(out: &[u8], signed: &[u8]) -> bool {
+    let parts = (
+        out.get(BEFORE_SIGNATURE..),
+        signed.split_at_checked(PUBLIC_KEY_LEN),
+    );
+    match parts {
+        (Some(signature), Some((public, message))) => verify(public, message, signature).is_ok(),
+        _ => false,
+    }
 }
 
 impl Wanted {
@@ -28,10 +45,16 @@ impl Wanted {
         self.out.is_empty() && self.report.is_empty()
     }
 
+    // Whether the output is one of these.
+    fn is_output(&self, answer: &Answer) -> bool {
+        answer.begins_with(self.out.as_slice())
+            && (self.signed.is_empty() || has_signature(answer.out.taken(), self.signed.as_slice()))
+    }
+
     // Whether it is this answer.
     fn is(&self, answer: &Answer) -> bool {
         if self.report.is_empty() {
-            return answer.begins_with(self.out.as_slice());
+            return self.is_output(answer);
         }
         answer.is(4, b"", self.report.as_slice())
     }
@@ -43,14 +66,12 @@ fn wanted_by(alloc: Global, case: &str, bytes: &str, text: &str, line: &str) -> 
     out.extend_from_slice(lines(alloc, case, text)?.as_slice())
         .ok()?;
     let report = lines(alloc, case, line)?;
-    Some(Wanted { out, report })
-}
-
-// The journal with these records.
-fn journal_of(alloc: Global, case: &str, key: &str) -> Option<Vec<u8>> {
-    let mut bytes = coded(alloc, field(case, key))?;
-    bytes.push(0).ok()?;
-    Some(bytes)
+    let signed = coded(alloc, field(case, "signed"))?;
+    Some(Wanted {
+        out,
+        report,
+        signed,
+    })
 }
 
 // The lists of records that are allowed, as the bytes of a journal without its last commit byte and
@@ -371,5 +392,29 @@ fn a_cosignature_stops(rt: HostRuntime) {
 #[test]
 fn a_cosignature_counts_its_key(rt: HostRuntime) {
     let wrong = wrong_stop(rt.alloc(), COSIGN_AGAIN);
+    assert!(rt; wrong == None, "{wrong:?}");
+}
+
+#[test]
+fn a_new_cosigner_of_two_levels_stops(rt: HostRuntime) {
+    let wrong = wrong_stop(rt.alloc(), NEW_COSIGNER_2);
+    assert!(rt; wrong == None, "{wrong:?}");
+}
+
+#[test]
+fn a_child_stops(rt: HostRuntime) {
+    let wrong = wrong_stop(rt.alloc(), CHILD);
+    assert!(rt; wrong == None, "{wrong:?}");
+}
+
+#[test]
+fn a_child_signs_after_a_stop(rt: HostRuntime) {
+    let wrong = wrong_stop(rt.alloc(), CHILD_SIGNS);
+    assert!(rt; wrong == None, "{wrong:?}");
+}
+
+#[test]
+fn a_cosignature_of_two_levels_stops(rt: HostRuntime) {
+    let wrong = wrong_stop(rt.alloc(), COSIGN_2);
     assert!(rt; wrong == None, "{wrong:?}");
 }
