@@ -5,7 +5,7 @@ The command then ends with status 8, one line that says so, nothing on standard 
 file as it was; or with its outcome, as if nothing had been refused. The lists here are shorter
 than what `entries` writes at once, but for that of LONG, of which the first items are out if the
 memory for the last one is refused. Of a log without a file of tiles an empty one may be there
-then. The allocations are those of the C library, of which a preloaded library refuses one. Needs a
+then, and tiles that are written again may be whole. The allocations are those of the C library, of which a preloaded library refuses one. Needs a
 C compiler; where there is none it says that this is left out, and ends with status 0.
 Usage: tests/allocations.py [PROGRAM]
 """
@@ -31,6 +31,8 @@ COMMANDS = [
     "init-log log 32473.1 2 32", "issue log request", "issue log wrong", "issue-list log requests", "issue-list log wrong", "checkpoint log", "entries log 5", "entries long 3",
     "entries-from log 3 5", "entries-from log 5 5",
     "consist log 3 5", "subtree log 0 4 5", "keygen 5 4 secret", "init-cosigner new 32473.2 32473.1 5 4 secret",
+    "init-cosigner2 new 32473.2 32473.1 5 5 4 secret", "child bottomless", "child grown", "child cosigner", "cosign bottomless subtree",
+    "cosign grown subtree",
     "advance early advance", "cosign cosigner subtree", "cosign early subtree", "export cosigner", "landmark log",
     "landmarks log", "light-cert log 2", "light-cert log 4", "light-certs log 1 4", "light-certs log 1 5",
     "trust-landmarks list 2 entries", "cert log 2 0 4 signatures", "certs log 1 4 0 4 signatures", "certs log 3 5 0 4 empty", "audit cert store " + NOW + " entries export",
@@ -40,6 +42,7 @@ COMMANDS = [
     "monitor state state advance entries", "monitor state watch subtree entries", "monitor state watch advance export",
     "switch log", "switch switched", "issue switched request",
     "checkpoint bare", "tile log", "tile full", "cert tiled 2 0 256 empty", "issue tiled request", "tile none.tiles",
+    "tile-anew full", "tile-anew tiled", "tile-anew lost",
     "help", "version", "help x",
 ]
 
@@ -102,8 +105,14 @@ def make_files(folder):
     for journal in ("full", "tiled"):
         subprocess.run([sys.executable, ROOT / "bench/log/make_journal.py", "256", folder.path / journal], check=True)
         folder.run("tile" if journal == "tiled" else "checkpoint", journal)
+    shutil.copy(folder.path / "tiled", folder.path / "lost")
+    (folder.path / "lost.tiles").write_bytes((folder.path / "tiled.tiles").read_bytes()[:100])
     for journal in ("early", "cosigner"):
         key = folder.run(*f"init-cosigner {journal} {COSIGNER} {LOG} 5 4 secret".split()).decode().strip()
+    for journal in ("bottomless", "grown"):
+        folder.run(*f"init-cosigner2 {journal} {COSIGNER} {LOG} 5 5 4 secret".split())
+        folder.run("advance", journal, "advance")
+    folder.run("child", "grown")
     folder.run("advance", "cosigner", "advance")
     folder.run("cosign", "cosigner", "subtree", into="signatures")
     folder.run("export", "cosigner", into="export")
@@ -151,7 +160,7 @@ class Refusals:
         wanted, number, wrong, step = self.ended(words, 0)[1], 0, [], STEPS.get(words, 1)
         # The command isn't known before its arguments are copied.
         lines = ["mtc: Memory\n", f"mtc: {words.split()[0]}: Memory\n"]
-        made = {**self.files, "bare.tiles": b""} if words == "checkpoint bare" else self.files
+        made = {"checkpoint bare": {**self.files, "bare.tiles": b""}, "tile-anew lost": wanted[3]}.get(words, self.files)
         outs = {b"", first_items(wanted[1], 2)} if words == LONG else {b""}
         allowed = [wanted, *((8, out, line, files) for out in outs for line in lines for files in (self.files, made))]
         seen = set()

@@ -1,5 +1,5 @@
 #!/bin/bash
-# Runs a list of commands on a log and a cosigner over real files, and compares the status, standard output (by the first half
+# Runs a list of commands on a log and two cosigners over real files, and compares the status, standard output (by the first half
 # of its SHA-256) and standard error of each, and the journals at the end, with those that another implementation gave once.
 # Usage: tests/commands.sh [PROGRAM]    another build of the program, which is left out where it isn't there
 set -u
@@ -26,9 +26,12 @@ request 2026-01-01T00:00:00Z 2026-01-08T00:00:00Z '"-a.example"' '' "$key" >u
 printf '[[request]]\n%s\n[[request]]\n%s\n' "$(<r)" "$(<s)" >R
 printf '[[request]]\n%s\n[[request]]\n%s\n' "$(<r)" "$(<t)" >T
 printf %048d 0 >secret
+printf %048d 1 >secret_of_two
 printf '[log]\nid = "32473.1"\n' | tee store >other
 printf '[[%s]]\n%s\n%s\n' cosigner 'id = "32473.2"' 'key = "AAAAAQAAAAUAAAADMDAwMDAwMDAwMDAwMDAwMIB1NLdgPEPM0E/kvwFyxip3db1CJTKwvsyumrhWwUuV"' \
     rule 'cosigners = ["32473.2"]' 'count = 1' >>other
+printf '[log]\nid = "32473.1"\n' >two
+printf '[[%s]]\n%s\n%s\n' cosigner 'id = "32473.4"' 'key = "AAAAAgAAAAYAAAADMDAwMDAwMDAwMDAwMDAwMNsU1/jEwolwGbNhwXZ3asRaBKXZXduAss8mu2bbOzUn"' rule 'cosigners = ["32473.4"]' 'count = 1' >>two
 printf '[log]\nid = "32473.1"\nalgorithm_from = 2\n' >switched
 : >empty
 echo a.example >names
@@ -146,6 +149,11 @@ tile w|2|-|mtc: tile: w: BadRecord 0
 tile k|7|-|mtc: tile: k: Absent
 tile j r|1|-|mtc: tile: WrongCount 2 1
 tile j.tiles|1|-|mtc: tile: TilesName 1
+tile-anew j|4|-|mtc: tile-anew: NothingNew
+tile-anew w|2|-|mtc: tile-anew: w: BadRecord 0
+tile-anew k|7|-|mtc: tile-anew: k: Absent
+tile-anew j r|1|-|mtc: tile-anew: WrongCount 2 1
+tile-anew j.tiles|1|-|mtc: tile-anew: TilesName 1
 init-log j.tiles 32473.1 2 64|1|-|mtc: init-log: TilesName 1
 init-log j.tiles 1 4 1|1|-|mtc: init-log: BadNumber 4
 init-log j.tiles 01 4 64|1|-|mtc: init-log: BadId 2
@@ -236,6 +244,26 @@ audit k other 1767225600 y x|7|-|mtc: audit: k: Absent
 audit f k 1767225600 y x|7|-|mtc: audit: k: Absent
 audit f other 1767225600 k x|7|-|mtc: audit: k: Absent
 audit f other 1767225600 y k|7|-|mtc: audit: k: Absent
+init-cosigner2 I 32473.4 32473.1 10 5 4 secret_of_two|0|d7c551d909320d2a|
+init-cosigner2 I 32473.4 32473.1 10 5 4 secret_of_two|7|-|mtc: init-cosigner2: I: Exists
+init-cosigner2 K 32473.4 32473.1 10 6 4 secret_of_two|1|-|mtc: init-cosigner2: BadNumber 5
+init-cosigner2 K 32473.4 32473.1 10 5 4 r|2|-|mtc: init-cosigner2: r: Trailing
+advance I a|0|7a59202bce4a144f|
+advance I b|0|a306b2505d61890f|
+cosign I c|4|-|mtc: cosign: NeedsChild
+child I|0|cdd66e1dee7a76ff|
+child I|4|-|mtc: child: ChildLeft 32
+cosign I c >L|0|c13ce3b94ffb03da|
+child I|4|-|mtc: child: ChildLeft 31
+child w|4|-|mtc: child: OneLevel
+child j|2|-|mtc: child: j: BadRecord 0
+child k|7|-|mtc: child: k: Absent
+child|1|-|mtc: child: WrongCount 0 1
+export I >M|0|bbbba462c9974540|
+cert j 1 0 2 L >N|0|5c0084a47ef3c588|
+verify N two 1767225600|0|1ce12c1c8a98c089|
+audit N two 1767225600 y M|0|d5e1ed673f1ca1d7|
+quarrel M|0|cb639537d7abfedf|
 quarrel x|0|cb639537d7abfedf|
 quarrel empty|0|cb639537d7abfedf|
 quarrel e|2|-|mtc: quarrel: e: BadKey
@@ -323,7 +351,7 @@ drill 07|1|-|mtc: drill: BadNumber 1
 drill 9223372036854775808|1|-|mtc: drill: BadNumber 1
 drill -7|1|-|mtc: drill: BadWord 1
 TABLE
-if [ "$(cat j w m o | sha256sum | cut -d' ' -f1)" != 153ee80fdbc66fc3537da1ad8c52b9d396d1b3c54c20f578ea8d95bd831e0b36 ]; then
+if [ "$(cat j w m o I | sha256sum | cut -d' ' -f1)" != 46bf0b413339342139cc2f8fd50485302cac03829614089bcd7d54b6bdcac201 ]; then
     echo "wrong: the journals"
     wrong=1
 fi

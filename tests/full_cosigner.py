@@ -1,9 +1,9 @@
 #!/usr/bin/env python3
-"""Makes the journal of a cosigner whose one-time keys have all signed, and compares what is said of it.
+"""Makes journals of cosigners whose one-time keys have all signed, and compares what is said of them.
 
-The log has 1,024 entries, and each key of height 10 has signed one of them alone. What `export` writes is made here from the
-records. `quarrel` finds that the signatures agree; where one is changed so that it would be in conflict, its record is
-refused. `cosign` has no key left. Over real files.
+The log has 1,024 entries, and each key of one tree of height 10, or of 32 lower trees of height 5, has signed one of them alone.
+What `export` writes is made here from the records. `quarrel` finds that the signatures agree; where one is changed so that it
+would be in conflict, its record is refused. `cosign` has no key left, and `child` makes no lower tree. Over real files.
 Usage: tests/full_cosigner.py [PROGRAM]
 """
 
@@ -14,10 +14,12 @@ import struct
 import subprocess
 import sys
 
-from cosignatures import COSIGNER_ID, LOG_ID, ROOT, Folder
+from cosignatures import COSIGNER, COSIGNER_ID, LOG, LOG_ID, ROOT, Folder
 
 KEYS = 1024
-TYPES = (6, 3)  # LMS_SHA256_M32_H10 and LMOTS_SHA256_N32_W4 (RFC 8554, sections 4.1 and 5.1)
+# LMS_SHA256_M32_H10, or H5 of both levels, and LMOTS_SHA256_N32_W4 (RFC 8554, sections 4.1 and 5.1), after the record's tag.
+ONE_TREE, LOWER_TREES = (0x11, 6, 3), (0x15, 5, 5, 3)
+LOWER_KEYS, H5 = 32, 5
 SECRET = hashlib.sha384(b"full").digest()
 
 
@@ -54,23 +56,36 @@ def sign(levels, number, index, node=None):
     return b"\x13" + signed + vector(path_in(levels, index))
 
 
+def child(number):
+    """The record of a lower tree."""
+    return b"\x14" + struct.pack(">II", number, H5)
+
+
+def with_children(records):
+    """An Advance and the records of signatures, with that of a lower tree before the first signature of each."""
+    held, *signs = records
+    at = range(0, len(signs), LOWER_KEYS)
+    return [held, *(one for first in at for one in (child(first // LOWER_KEYS), *signs[first:first + LOWER_KEYS]))]
+
+
 def sized(record):
     return struct.pack(">I", len(record)) + record
 
 
-def cosigner(secret):
+def cosigner(secret, kind=ONE_TREE):
     """The first record of a cosigner's journal."""
     ids = bytes([len(COSIGNER_ID)]) + COSIGNER_ID + bytes([len(LOG_ID)]) + LOG_ID
-    return b"\x11" + ids + struct.pack(">II", *TYPES) + secret
+    tag, *types = kind
+    return bytes([tag]) + ids + struct.pack(f">{len(types)}I", *types) + secret
 
 
-def journal_of(secret, records):
+def journal_of(secret, records, kind=ONE_TREE):
     """A journal of these records. No cosigner's journal is opened that others may read."""
-    return b"mtc-journal/v1\n\0" + b"".join(b"\1" + sized(one) for one in [cosigner(secret), *records]) + b"\0"
+    return b"mtc-journal/v1\n\0" + b"".join(b"\1" + sized(one) for one in [cosigner(secret, kind), *records]) + b"\0"
 
 
-def write_journal(path, secret, records):
-    path.write_bytes(journal_of(secret, records))
+def write_journal(path, secret, records, kind=ONE_TREE):
+    path.write_bytes(journal_of(secret, records, kind))
     path.chmod(0o600)
 
 
@@ -96,14 +111,16 @@ class FullCosigner(Folder):
         write_journal(self.path / "full", SECRET, self.records)
         (self.path / "secret").write_bytes(SECRET)
         self.key = base64.b64decode(self.run("keygen", "10", "4", "secret"))
+        self.lower_key = base64.b64decode(self.run("init-cosigner2", "new", COSIGNER, LOG, "5", "5", "4", "secret"))
+        write_journal(self.path / "lower", SECRET, with_children(self.records), LOWER_TREES)
 
     def expect(self, name, found, wanted):
         if found != wanted:
             self.wrong.append(f"wrong: {name}: {str(found)[:200]} in place of {str(wanted)[:200]}")
 
-    def expect_quarrel(self, name, records, wanted):
+    def expect_quarrel(self, name, records, wanted, key=None):
         """What `quarrel` answers to the export of these records: status, output and line."""
-        (self.path / "export").write_bytes(export_of(self.key, records))
+        (self.path / "export").write_bytes(export_of(key or self.key, records))
         self.expect(name, self.refusal("quarrel", "export"), wanted)
 
 
@@ -135,6 +152,23 @@ def check_keys(full):
     full.expect_quarrel("a signature more than there are keys", more, refused)
 
 
+def check_lower_trees(full):
+    """The same of a key of two levels. No lower tree follows the last one."""
+    exported, records = full.run("export", "lower"), with_children(full.records)
+    full.expect("export of lower trees", exported, export_of(full.lower_key, records))
+    full.expect_quarrel("quarrel of lower trees", records, (0, b"agree\n", ""), full.lower_key)
+    before = (full.path / "lower").read_bytes()
+    full.expect("cosign by lower trees", full.refusal("cosign", "lower", "request"), (4, b"", "mtc: cosign: Exhausted\n"))
+    full.expect("child", full.refusal("child", "lower"), (4, b"", "mtc: child: Exhausted\n"))
+    full.expect("the journal of lower trees", (full.path / "lower").read_bytes(), before)
+    refused = (2, b"", f"mtc: quarrel: export: BadRecord {len(records) + 1}\n")
+    for name, more in (("a signature", sign(full.levels, KEYS, 5)), ("a lower tree", child(KEYS // LOWER_KEYS))):
+        full.expect_quarrel(f"{name} more than there are keys", [*records, more], refused, full.lower_key)
+    early = [*records[:LOWER_KEYS + 1], child(1)]
+    refused = (2, b"", f"mtc: quarrel: export: BadRecord {LOWER_KEYS + 2}\n")
+    full.expect_quarrel("a lower tree before the last signature of the one before it", early, refused, full.lower_key)
+
+
 def main():
     program = ROOT / "crates/mtc_main/out/mtc_main"
     if len(sys.argv) > 1:
@@ -142,10 +176,10 @@ def main():
     elif subprocess.run([ROOT / "mtc", "member", ROOT / "examples/first.member"], stdout=subprocess.DEVNULL).returncode:
         return 70
     full = FullCosigner(program)
-    for check in (check_export, check_conflicts, check_keys):
+    for check in (check_export, check_conflicts, check_keys, check_lower_trees):
         check(full)
     shutil.rmtree(full.path)
-    print(*full.wrong, f"the export of a cosigner with {KEYS} signatures is compared, and they agree", sep="\n")
+    print(*full.wrong, f"the exports of two cosigners with {KEYS} signatures are compared, and they agree", sep="\n")
     return bool(full.wrong)
 
 

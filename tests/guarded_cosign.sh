@@ -62,7 +62,7 @@ log cosign twin subtree >signature1
 log cosign twin subtree >signature2
 
 # Words, and the first run.
-guarded "64 0 *begin, advance or cosign"
+guarded "64 0 *begin, advance, cosign or child"
 guarded "64 0 *cosign JOURNAL KEPT REQUEST" cosign s kept/s
 guarded "64 0 *none is no file" begin none kept/none
 guarded "64 0 *s is a journal" begin s s
@@ -141,6 +141,31 @@ log cosign twin subtree >signature3
 log cosign twin subtree >signature4
 guarded "0 $(wc -c <signature4) " cosign s kept/s subtree
 same out signature4 "the fifth signature"
+
+# With a key of two levels: `child` is guarded as well.
+for s in two twin_of_two; do
+    log init-cosigner2 $s 32473.3 32473.1 5 5 8 secret >/dev/null
+    log advance $s advance >/dev/null
+done
+log child twin_of_two >child
+log cosign twin_of_two subtree >signature0
+guarded "64 0 *child JOURNAL KEPT" child two kept/two subtree
+guarded "21 0 *kept/two isn't there*" child two kept/two
+guarded "0 0 " begin two kept/two
+guarded "4 0 mtc: cosign: NeedsChild" cosign two kept/two subtree
+cp two old
+guarded "0 $(wc -c <child) " child two kept/two
+same out child "what child prints"
+guarded "4 0 mtc: child: ChildLeft 32" child two kept/two
+guarded "0 $(wc -c <signature0) " cosign two kept/two subtree
+same out signature0 "a signature of two levels"
+log export two >export
+same kept/two export "the stored export of two levels"
+cp two new
+cp old two
+guarded "20 0 *has lost records*" child two kept/two
+same two old "a journal that was put back gets no lower tree"
+cp new two
 
 # Another run, and a place that takes no export.
 cp s new

@@ -1,6 +1,7 @@
 #!/usr/bin/env python3
 """Changes certificates, proofs, signatures, stores, requests, entries, exports and journals, and compares what `verify`,
-`audit`, `issue` and `advance` say of them with what the readers of tests/reference say; and what is then in a journal.
+`audit`, `issue`, `certs`, `advance` and `child` say of them with what the readers of tests/reference say; and what is then in
+a journal. The keys of cosigners have one level or two, and entries stand in records of their own or several in one.
 
 Where an element of a certificate is changed, dropped, doubled or moved, the lengths around it are fitted: so the change
 is met where it stands, and not as a length that doesn't fit. Else one byte is changed at a time, each of a file to each of

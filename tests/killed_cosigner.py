@@ -2,8 +2,9 @@
 """Kills `cosign` at random times over a real file, and checks what the cosigner's journal then has.
 
 After each kill the journal opens, with the records that it had and one more at most. Where a byte of a signature went out,
-that one is there, and has the number of the one-time key that signed. No number stands twice.
-Usage: tests/killed_cosigner.py [KILLS]    100 if nothing is said; with less than 30 it may be that no byte goes out, and
+that one is there, and has the number of the one-time key that signed. No number stands twice. Half of the kills are of cosigners
+whose keys have two levels.
+Usage: tests/killed_cosigner.py [KILLS]    100 if nothing is said; with less than 60 it may be that no byte goes out, and
        that is wrong too
 """
 
@@ -18,8 +19,10 @@ from files.folder import ROOT, Folder, unlike
 from files.kills import killed, next_span
 from files.locks import number_in
 
-# A key of height 5 has 32 one-time keys, and so many kills each cosigner of the test is given.
+# A key of height 5 has 32 one-time keys, as each lower tree has, and so many kills each cosigner of the test is given.
 KILLS = 30
+# The upper tree's signature of the first lower tree's key, of height 5 and width 8, and that key (RFC 8554, section 5.4).
+UPPER = 4 + 4 + 32 * (1 + 34) + 4 + 32 * 5 + 56
 
 
 class Cosigned(Folder):
@@ -34,41 +37,51 @@ class Cosigned(Folder):
         self.write("advance", self.said(["consist", "j", "0", str(size)]))
         self.write("subtree", self.said(["subtree", "j", "0", str(size), str(size)]))
 
-    def new_cosigner(self, journal):
+    def new_cosigner(self, journal, levels):
         """Its secret comes through a pipe, so that no file but the journal has it."""
-        words = ["init-cosigner", journal, COSIGNER, LOG, "5", "8", "/dev/stdin"]
+        begin = ["init-cosigner", "init-cosigner2"][levels - 1]
+        words = [begin, journal, COSIGNER, LOG, *["5"] * levels, "8", "/dev/stdin"]
         status, _, err = self.run(words, before=["sh", "-c", 'head -c 48 /dev/urandom | "$0" "$@"'])
         if status != 0:
             raise RuntimeError(f"{words}: status {status} {err}")
         self.said(["advance", journal, "advance"])
+        if levels == 2:
+            self.said(["child", journal])
 
     def numbers(self, journal):
         """The numbers of the Sign records of an export, in its order."""
         return numbers_of(self.said(["export", journal]))
 
 
-def check(folder, kills):
+def key_in(signature, levels):
+    """The number of the one-time key, where so much of a signature went out. Of two levels it stands after the upper tree's part."""
+    head = 1 + signature[0] + 2 + 4
+    return number_in(signature[:head] + signature[head + (levels - 1) * UPPER:])
+
+
+def check(folder, kills, levels):
     """What is wrong, and how many signatures went out, and how many records are there of which nothing did."""
-    began = time.monotonic()
-    folder.new_cosigner("first")
-    folder.said(["cosign", "first", "subtree"])
-    span, before, journal = time.monotonic() - began, [], None
+    began, sent = time.monotonic(), 0
+    folder.new_cosigner(f"first{levels}", levels)
+    folder.said(["cosign", f"first{levels}", "subtree"])
+    span = time.monotonic() - began
     for kill in range(kills):
         if kill % KILLS == 0:
-            journal, before = f"c{kill}", []
-            folder.new_cosigner(journal)
+            journal, before = f"c{levels}.{kill}", []
+            folder.new_cosigner(journal, levels)
         out = killed(folder, ["cosign", journal, "subtree"], random.uniform(0, span)).encode("latin-1")
         numbers = folder.numbers(journal)
         yield from unlike(f"kill {kill}: the numbers", numbers, [*range(len(numbers))])
         if out:
-            folder.out += 1
+            sent += 1
             yield from unlike(f"kill {kill}: the records", len(numbers), len(before) + 1)
-            yield from unlike(f"kill {kill}: the key", number_in(out) in (None, len(before)), True)
+            yield from unlike(f"kill {kill}: the key", key_in(out, levels) in (None, len(before)), True)
         else:
             folder.unsaid += len(numbers) - len(before)
             yield from unlike(f"kill {kill}: a record at most", len(numbers) - len(before) in (0, 1), True)
         span, before = next_span(span, bool(out)), numbers
-    yield from unlike("a byte went out", folder.out > 0, True)
+    yield from unlike(f"a byte went out by a key of {levels} levels", sent > 0, True)
+    folder.out += sent
 
 
 def main(words):
@@ -77,7 +90,7 @@ def main(words):
     folder = Cosigned(ROOT / "crates/mtc_main/out/mtc_main")
     folder.out = folder.unsaid = 0
     kills = int(words[0]) if words else 100
-    wrong = list(check(folder, kills))
+    wrong = [*check(folder, kills - kills // 2, 1), *check(folder, kills // 2, 2)]
     shutil.rmtree(folder.path)
     print(f"{'wrong' if wrong else 'ok'}: `cosign` was killed {kills} times: of {folder.out} a byte went out, and the records of"
           f" {folder.unsaid} others are there", *wrong, sep="\n    ")

@@ -29,7 +29,7 @@ CHECKS = [
     (Scene, streams.check_readers), (Judged, streams.check_pipes), (Scene, streams.check_no_files),
     (Scene, order.check_order), (Folder, order.check_tail), (Folder, order.check_replaced),
     (Scene, faults.check_faults), (Scene, faults.check_append), (Scene, faults.check_first_append),
-    (Scene, faults.check_signals), (Scene, kills.check_file_limit), (Folder, limits.check_memory),
+    (Scene, faults.check_tiles_anew), (Scene, faults.check_signals), (Scene, kills.check_file_limit), (Folder, limits.check_memory),
     (Judged, limits.check_inputs), (Folder, limits.check_extensions), (Judged, limits.check_long_entries),
     (Judged, limits.check_many_items),
     (Scene, disks.check_full), (Scene, disks.check_read_only), (Folder, locks.check_at_once),

@@ -1,7 +1,7 @@
 #!/usr/bin/env python3
 """Tiles logs of many sizes over real files, and compares what the commands then write with what they wrote before, and with
 the plain list of the log's entries: roots, paths and proofs, and each byte of the file of tiles. Then it spoils that file, and
-has it made again, and kills `tile` at random times.
+`tile-anew` writes it again; and `tile` and `tile-anew` are killed at random times.
 
 Prints a line for each size and each check, and below it what is wrong.
 Usage: tests/tiled_log.py [KILLS [SIZE ..]]      100 kills, and the sizes of SIZES, if nothing is said. The gate takes 257 alone;
@@ -122,9 +122,19 @@ def spoiled(folder, tiles, checkpoint):
         yield from unlike(f"{len(text)} bytes, bad tile {bad}", folder.run(["checkpoint", "j"]), wanted)
         kept = folder.bytes("j.tiles") == text and folder.bytes() == journal
         yield from unlike("both files stay", kept, True)
-    subprocess.run([sys.executable, ROOT / "tests/rebuild_tiles.py", folder.path / "j"], check=True, capture_output=True)
-    folder.own(folder.path / "j.tiles")
-    yield from unlike("the file of tiles is the same again", folder.bytes("j.tiles") == whole, True)
+        if bad is not None or text != whole:
+            yield from rebuilt(folder, len(whole), f"{len(text)} bytes, bad tile {bad}", whole + text[len(whole):])
+    (folder.path / "j.tiles").unlink()
+    yield from rebuilt(folder, len(whole), "no file", whole)
+    yield from unlike("the journal stays", folder.bytes() == journal, True)
+
+
+def rebuilt(folder, length, what, wanted):
+    """What is wrong with what `tile-anew` makes of the file, of which the tiles have so many bytes."""
+    entries = 256 * sum(1 for number in range(length // TILE) if number % 257 != 256)
+    says = (0, f"tiled {entries}\n", "") if length else (4, "", "mtc: tile-anew: NothingNew\n")
+    yield from unlike(f"tile-anew over {what}", folder.run(["tile-anew", "j"]), says)
+    yield from unlike(f"the tiles after {what}", folder.bytes("j.tiles") == wanted, True)
 
 
 def one_tile(folder):
@@ -135,7 +145,8 @@ def one_tile(folder):
 
 
 def check_kills(folder, kills):
-    """`tile` is killed at random times: the log opens each time with its root, and is tiled then or by the next `tile`."""
+    """`tile` and `tile-anew` are killed at random times: the log opens each time with its root, and is tiled then or by the next
+    `tile`; what `tile-anew` left undone the next one does"""
     span, reported, kept = sorted(one_tile(folder) for _ in range(5))[2], 0, 0
     root = folder.run(["checkpoint", "j"])
     for number in range(kills):
@@ -151,6 +162,14 @@ def check_kills(folder, kills):
         else:
             yield from unlike(f"tile after kill {number}", again, (0, "tiled 1024\n", ""))
             yield from unlike(f"what was said before kill {number}", line, "")
+        whole = folder.bytes("j.tiles")
+        (folder.path / "j.tiles").write_bytes(whole[:random.randrange(len(whole))])
+        process = folder.start(["tile-anew", "j"])
+        time.sleep(random.uniform(0, span))
+        process.kill()
+        process.communicate()
+        yield from unlike(f"tile-anew after kill {number}", folder.run(["tile-anew", "j"]), (0, "tiled 1024\n", ""))
+        yield from unlike(f"the tiles after kill {number}", folder.bytes("j.tiles") == whole, True)
         reported += line == "tiled 1024\n"
         yield from unlike(f"checkpoint over tiles {number}", folder.run(["checkpoint", "j"]), root)
         # So that some three of ten end, however long a `tile` takes by now.

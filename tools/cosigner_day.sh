@@ -1,7 +1,7 @@
 #!/bin/bash
 # What a cosigner does each day, with the guard of guarded_cosign.sh: it advances by the request of a log, signs the subtree of the
-# other request once, and writes its export. In FOLDER lie
-#   journal            made by `mtc init-cosigner`
+# other request once, and writes its export. A key of two levels gets its next lower tree when it needs one. In FOLDER lie
+#   journal            made by `mtc init-cosigner` or `mtc init-cosigner2`
 #   consist, subtree   the requests of the log, fetched by whoever runs this
 #   signature, export  what goes back to the log, and what is published
 #   signed             the request of `signature`: the same one isn't signed again, since each signature costs a one-time key. Only
@@ -40,9 +40,23 @@ if [ $status -ne 0 ] && ! grep -q '^mtc: advance: NotNewer ' why; then
     exit $status
 fi
 rm why
+sign() {
+    into signature "$tools/guarded_cosign.sh" cosign journal "$kept" signed.new 2>why
+}
 if ! cmp -s subtree signed; then
     cp subtree signed.new
-    into signature "$tools/guarded_cosign.sh" cosign journal "$kept" signed.new
+    status=0
+    sign || status=$?
+    if [ $status -ne 0 ] && grep -q '^mtc: cosign: NeedsChild$' why; then
+        "$tools/guarded_cosign.sh" child journal "$kept" >/dev/null
+        status=0
+        sign || status=$?
+    fi
+    if [ $status -ne 0 ]; then
+        cat why >&2
+        exit $status
+    fi
+    rm why
     mv -f signed.new signed
 fi
 into export "$mtc" export journal

@@ -6,6 +6,7 @@
 # Usage: tools/guarded_cosign.sh begin JOURNAL KEPT              stores the first export
 #        tools/guarded_cosign.sh advance JOURNAL KEPT REQUEST    as `mtc advance JOURNAL REQUEST`
 #        tools/guarded_cosign.sh cosign JOURNAL KEPT REQUEST     as `mtc cosign JOURNAL REQUEST`
+#        tools/guarded_cosign.sh child JOURNAL KEPT              as `mtc child JOURNAL`
 # MTC names the program, and else it is `mtc`. The statuses are those of the program, and these:
 #   20  the journal has lost records, or it is another one: never sign with it again
 #   21  there is no stored export, or with `begin` there is one
@@ -21,9 +22,9 @@ refuse() {
 }
 
 case "${1-}" in
-    begin) [ $# -eq 3 ] || refuse 64 "begin JOURNAL KEPT" ;;
+    begin | child) [ $# -eq 3 ] || refuse 64 "$1 JOURNAL KEPT" ;;
     advance | cosign) [ $# -eq 4 ] || refuse 64 "$1 JOURNAL KEPT REQUEST" ;;
-    *) refuse 64 "begin, advance or cosign" ;;
+    *) refuse 64 "begin, advance, cosign or child" ;;
 esac
 command=$1 journal=$2 kept=$3
 mtc=${MTC-mtc}
@@ -70,7 +71,7 @@ keep
 
 # What the command prints may hold any bytes, and no file has it before the new export is stored.
 before=$(size) || refuse 21 "$kept isn't there"
-printed=$("$mtc" "$command" "$journal" "$4" | base64 -w 0) || exit $?
+printed=$("$mtc" "$command" "$journal" "${@:4}" | base64 -w 0) || exit $?
 keep
 [ "$(size || echo 0)" -gt "$before" ] || refuse 20 "$journal has no record of what it did: never sign with it again"
 printf %s "$printed" | base64 -d || exit 6

@@ -184,13 +184,13 @@ def check_architecture():
 @cache
 def commands():
     source = (CRATES["mtc_words"].folder / "src" / "name.rt").read_text()
-    return set(re.findall(r'^\s*"([a-z-]+)" =>', source, re.M))
+    return set(re.findall(r'^\s*"([a-z0-9-]+)" =>', source, re.M))
 
 
 def check_commands():
     """COMMANDS has the commands that the words can name, each once"""
     table = (DOCS / "COMMANDS.md").read_text().split("\n## ")[0]
-    rows = re.findall(r"^\| `([a-z-]+)[ A-Z`]", table, re.M)
+    rows = re.findall(r"^\| `([a-z0-9-]+)[ A-Z`]", table, re.M)
     for name in sorted(commands() ^ set(rows)):
         yield f"docs/COMMANDS.md: {name} is {'not in the table' if name in commands() else 'no command'}"
     if len(rows) != len(set(rows)) or not commands():

@@ -7,13 +7,15 @@ from .citations import commands
 from .sources import ROOT
 
 MOST = 12
+# commands whose value is that of another one
+VALUES = {"init-cosigner2": "init-cosigner"}
 
 
 @dataclass
 class Place:
     where: str  # a file or a folder
     what: str
-    # (file in it, pattern), in which {word} is the command's word, {Name} its variant and {value} its value
+    # (file in it, pattern), in which {word} is the command's word, {Name} its name, {Command} its variant and {value} its value
     wanted: list
     on_log: bool = False  # only for work on an open log
     or_in: str = ""  # another file that will do
@@ -23,14 +25,14 @@ WORDS, TOP = "crates/mtc_words", "crates/mtc_top"
 PLACES = [
     Place(f"{WORDS}/src", "a variant of `Command`; a variant of `Name`, with its word, how many arguments it takes and whether the first "
           "is a journal; a line of `build`",
-          [("command.rt", r"/// `{word}[ `]"), ("command.rt", r"^    {Name}[,(]"), ("name.rt", r'"{word}" => Some\(Name::{Name}\)'),
+          [("command.rt", r"/// `{word}[ `]"), ("command.rt", r"^    {Command}[,(]"), ("name.rt", r'"{word}" => Some\(Name::{Name}\)'),
            ("name.rt", r"Name::{Name}\b.* => \d"), ("name.rt", r"Name::{Name}\b.* => (?:true|false)"), ("building.rt", r"Name::{Name}\b")]),
     Place(f"{WORDS}/specs", "the same tables: its value with its ranges and its journal, its name, and what its arguments say",
-          [("Commands.antt", r"^  {value} :"), ("Commands.antt", r"^command_value \(?{Name}\b"), ("Commands.antt", r"^IsInRange \(?{value}\b"),
+          [("Commands.antt", r"^  {value} :"), ("Commands.antt", r"^command_value \(?{Command}\b"), ("Commands.antt", r"^IsInRange \(?{value}\b"),
            ("Commands.antt", r"^journal_of \(?{value}\b"), ("Names.antt", r'codes "{word}"'), ("Names.antt", r"^word_count {Name} ="),
            ("Names.antt", r"^takes_journal {Name} ="), ("Words.antt", r"^command_from {Name} ")]),
     Place(f"{WORDS}/proofs/Journals.antt", "a line of `from_words`", [("", r"^from_words {Name} ")]),
-    Place(f"{TOP}/src/top.rt", "a line of `perform`, or of `perform_reading` if it has no journal: the call, in the crate of its role", [("", r"Command::{Name}\b(?!.*unreachable)")]),
+    Place(f"{TOP}/src/top.rt", "a line of `perform`, or of `perform_reading` if it has no journal: the call, in the crate of its role", [("", r"Command::{Command}\b(?!.*unreachable)")]),
     Place("crates/mtc_plans", "in `specs/Commands.antt` a line of `plan_of`: the plan, which stands beside it in `specs/`, has its inputs, "
           "its journals and its steps. In `specs/Cited.antt` a line of `command_outcome`: the outcome that its contract cites, a nest of the "
           "steps of `Steps`, in `specs/` of its crate. In `proofs/Planned.antt` a line of `outcome_planned`: that is what comes of the plan. "
@@ -51,10 +53,15 @@ PLACES = [
 ]
 
 
+def variant(word):
+    return "".join(part.capitalize() for part in word.split("-"))
+
+
 def filled(pattern, word):
     """A pattern for one command."""
-    names = {"word": word, "value": word.replace("-", "_"), "man": word.replace("-", r"\\-"),
-             "Name": "".join(part.capitalize() for part in word.split("-"))}
+    meant = VALUES.get(word, word)
+    names = {"word": word, "value": meant.replace("-", "_"), "man": word.replace("-", r"\\-"), "Name": variant(word),
+             "Command": variant(meant)}
     for sign, name in names.items():
         pattern = pattern.replace(f"{{{sign}}}", name)
     return pattern

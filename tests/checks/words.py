@@ -15,6 +15,8 @@ PRIVATE_PARTS = {
     "image": "crash state", "images": "crash states", "moment": "time, clock", "moments": "times", "look": "read", "looks": "reads", "looked": "read",
     "anew": "again, rebuilt", "spell": "encode", "spelled": "encoded", "spelling": "encoding", "course": "execution", "courses": "executions",
 }
+# Names of commands, as their users give them.
+COMMANDS = {"tile_anew", "TileAnew"}
 # Names of the kit, and what it calls a step of a proof or a field of one.
 KITS = {"tells_all_ascii_digits", "tells_digits", "leb_tells", "eqb_tells", "Lends", "lender", "looked_up"}
 KITS_STEP = re.compile(r"(?:\.told\d?(?![\w])|\bc\.behind-\w+\.(?:inside|fields|ranges)|invariant_of-behind-|\.ensures\.front(?:_len)?\b)")
@@ -38,7 +40,7 @@ def parted(text, suffix):
 
 
 def private_parts_of(name):
-    if name not in KITS:
+    if name not in KITS | COMMANDS:
         for piece in PIECE.findall(name):
             if piece.lower() in PRIVATE_PARTS:
                 yield piece, PRIVATE_PARTS[piece.lower()]

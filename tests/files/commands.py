@@ -13,20 +13,26 @@ HEADER = b"mtc-journal/v1\n\0"
 # So many entries fill a tile; the log of a scene has one more.
 TILE = 256
 # The tags of records (docs/FORMATS.md, "Journals").
-ENTRY, LANDMARK, TILES, SWITCH, BATCH, ADVANCE, SIGN = 0x02, 0x03, 0x04, 0x05, 0x06, 0x12, 0x13
-LOG_BEGINS, COSIGNER_BEGINS = 0x01, 0x11
+ENTRY, LANDMARK, TILES, SWITCH, BATCH, ADVANCE, SIGN, CHILD = 0x02, 0x03, 0x04, 0x05, 0x06, 0x12, 0x13, 0x14
+LOG_BEGINS, COSIGNER_BEGINS, COSIGNER_2_BEGINS = 0x01, 0x11, 0x15
+# The logs of a scene. Those of the other names are cosigners'.
+LOGS = ("j", "t")
 
 
 class Command:
-    """A command on a journal: its words, which record it adds or begins a journal with, if any, and what it says again where
-    its record is there already. What it prints stands here where it is a line that its page says."""
+    """A command on a journal: its words, which record it adds or begins a journal with, if any, whether it writes tiles, and what
+    it says again where its record is there already. What it prints stands here where it is a line that its page says."""
 
-    def __init__(self, words, says=None, adds=None, begins=None, again=None):
+    def __init__(self, words, says=None, adds=None, begins=None, again=None, writes_tiles=False):
         self.words, self.says, self.adds, self.begins, self.again = words.split(), says, adds, begins, again
-        self.name, self.journal = self.words[0], self.words[1]
-        self.is_of_log = self.journal == "j" or begins == LOG_BEGINS
+        self.name, self.journal, self.writes_tiles = self.words[0], self.words[1], writes_tiles
+        self.is_of_log = self.journal in LOGS or begins == LOG_BEGINS
         # The file of tiles, beside the journal of a log that is there.
         self.tiles = f"{self.journal}.tiles" if self.is_of_log and not begins else None
+
+    def on(self, journal):
+        """Its words on another journal."""
+        return [self.name, journal, *self.words[2:]]
 
     def line(self, file, refusal="Failed"):
         """The line on standard error about a file."""
@@ -36,12 +42,15 @@ class Command:
 COMMANDS = [
     Command("init-log new 32473.1 2 100000", "log 32473.1\n", begins=LOG_BEGINS),
     Command("init-cosigner new 32473.2 32473.1 5 4 secret", begins=COSIGNER_BEGINS),
+    Command("init-cosigner2 new 32473.2 32473.1 5 5 4 secret", begins=COSIGNER_2_BEGINS),
     Command("issue j r", "issued 257\n", adds=ENTRY),
     Command("issue-list j list", "issued 257\nissued 258\n", adds=BATCH),
     Command("landmark j", "landmark 2 257\n", adds=LANDMARK, again="mtc: landmark: NothingNew\n"),
-    Command("tile j", "tiled 256\n", adds=TILES, again="mtc: tile: NothingNew\n"),
+    Command("tile j", "tiled 256\n", adds=TILES, again="mtc: tile: NothingNew\n", writes_tiles=True),
+    Command("tile-anew t", "tiled 256\n", writes_tiles=True),
     Command("switch j", "switched 257\n", adds=SWITCH, again="mtc: switch: AlreadySwitched 257\n"),
     Command("advance s forward", "advanced 257\n", adds=ADVANCE, again="mtc: advance: NotNewer 257\n"),
+    Command("child c", "child 0\n", adds=CHILD, again="mtc: child: ChildLeft 32\n"),
     Command("cosign s part", adds=SIGN),
     Command("checkpoint j"), Command("entries j 2"), Command("entries-from j 2 257"), Command("consist j 1 257"),
     Command("subtree j 0 4 257"), Command("landmarks j", "1 1\n256\n0\n"), Command("light-cert j 1"),
@@ -50,13 +59,15 @@ COMMANDS = [
 BEGINNING = [command for command in COMMANDS if command.begins]
 ADDING = [command for command in COMMANDS if command.adds]
 OPENING = [command for command in COMMANDS if not command.begins]
+ON_LOGS = [command for command in COMMANDS if command.tiles]
 # How a whole journal is asked for what it holds, by whether it is a log's.
 ASKS = {True: "checkpoint", False: "export"}
 
 
 class Scene(Folder):
-    """A folder with the files of all commands: a log `j` of 257 entries, of which 256 have a landmark and none a tile, and a
-    cosigner `s` that holds 256 of them."""
+    """A folder with the files of all commands: a log `j` of 257 entries, of which 256 have a landmark and none a tile, a copy `t`
+    of it that is tiled and in whose one tile a byte is wrong, a cosigner `s` that holds 256 of them, and a cosigner `c` whose key
+    has no lower tree yet."""
 
     def __init__(self, program):
         super().__init__(program)
@@ -69,8 +80,12 @@ class Scene(Folder):
         self.write("part", self.said(f"subtree j 0 4 {TILE}"))
         self.said("issue j r")
         self.write("forward", self.said(f"consist j {TILE} {TILE + 1}"))
+        self.write("t", self.bytes("j"))
+        self.said("tile t")
+        self.write("t.tiles", with_wrong_byte(self.bytes("t.tiles")))
         self.said(f"init-cosigner s {COSIGNER} {LOG} 5 4 secret")
         self.said("advance s first")
+        self.said(f"init-cosigner2 c {COSIGNER} {LOG} 5 5 4 secret")
         self.kept = self.files()
 
     def files(self):
@@ -92,6 +107,12 @@ class Scene(Folder):
         """The names of the files that aren't as at the beginning."""
         now = self.files()
         return sorted(name for name in now.keys() | self.kept.keys() if now.get(name) != self.kept.get(name))
+
+
+def with_wrong_byte(text):
+    """The bytes with another one in their middle."""
+    middle = len(text) // 2
+    return text[:middle] + bytes([text[middle] ^ 1]) + text[middle + 1:]
 
 
 def records(text):
@@ -131,7 +152,7 @@ def asked(scene, command):
 
 def named_with(words):
     """The commands of docs/COMMANDS.md that have one of these among their words."""
-    rows = re.findall(r"^\| `([a-z][a-z-]*) ([^`]*)`", (ROOT / "docs/COMMANDS.md").read_text(), re.M)
+    rows = re.findall(r"^\| `([a-z][a-z0-9-]*) ([^`]*)`", (ROOT / "docs/COMMANDS.md").read_text(), re.M)
     return sorted({name for name, row in rows if set(row.split()) & set(words)})
 
 

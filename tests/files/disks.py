@@ -5,7 +5,7 @@ import os
 import shutil
 import subprocess
 
-from .commands import BEGINNING, COMMANDS, COSIGNER, LOG
+from .commands import ASKS, BEGINNING, COMMANDS, COSIGNER, LOG
 from .folder import LeftOut, NOBODY, failed, unlike
 
 SIZE, PAGE = 65536, 4096
@@ -93,8 +93,7 @@ def full_at_first(folder, disk):
     """A command that begins a journal on a full disk leaves an empty file; with space, and without that file, it does its work."""
     fill(disk, 0)
     for command in BEGINNING:
-        asks = {"init-log": "checkpoint", "init-cosigner": "export"}[command.name]
-        words = [command.name, "d/new", *command.words[2:]]
+        asks, words = ASKS[command.is_of_log], command.on("d/new")
         yield from unlike(command.name, folder.run(words), failed(command.name, "d/new"))
         yield from unlike("its file", folder.bytes("d/new"), b"")
         yield from unlike(asks, folder.run([asks, "d/new"]), (2, "", f"mtc: {asks}: d/new: NotJournal\n"))

@@ -2,9 +2,9 @@
 
 import signal
 
-from .commands import ADDING, BEGINNING, OPENING, added, asked
+from .commands import ADDING, ASKS, BEGINNING, COMMANDS, OPENING, added, asked
 from .folder import failed, locked, unlike
-from .tracing import appending, at_fault, opening, wants_trace
+from .tracing import appending, at_fault, opening, traced, wants_trace
 
 LOCKS = ["flock:error=EAGAIN", "flock:error=ENOLCK"]
 ERRORS = {"pwrite64": "ENOSPC", "fsync": "EIO", "pread64": "EIO"}
@@ -88,7 +88,7 @@ def check_first_append(scene, _kills):
     """A write or a sync that fails within the first append of a new journal leaves a file that is empty, has no record yet, or is whole"""
     wants_trace(scene)
     for command in BEGINNING:
-        asks = {"init-log": "checkpoint", "init-cosigner": "export"}[command.name]
+        asks = ASKS[command.is_of_log]
         for (fault, file, _), refusal in zip(appending_faults(scene, command), NEW_FILES):
             scene.restore()
             what = f"{command.name} {fault}"
@@ -97,6 +97,26 @@ def check_first_append(scene, _kills):
             wanted = (2, f"mtc: {asks}: new: {refusal}\n") if refusal else (0, "")
             yield from unlike(f"{asks} after {what}", (status, err), wanted)
             yield from unlike(f"again after {what}", scene.run(command.words), (7, "", command.line("new", "Exists")))
+
+
+def check_tiles_anew(scene, _kills):
+    """A write or a sync that fails while tiles are written again is status 5 with nothing printed, and the next run makes them whole;
+    good tiles are synced alone"""
+    wants_trace(scene)
+    command = next(command for command in COMMANDS if command.writes_tiles and not command.adds)
+    scene.said(command.words)
+    whole, calls = scene.bytes(command.tiles), traced(scene, command.words)[1]
+    wanted = [*opening(scene, command), f"fsync {command.tiles}", "write out"]
+    yield from unlike("over good tiles", [call for call, _ in calls], wanted)
+    for kind, number, file in numbered(appending(command), opening(scene, command)):
+        scene.restore()
+        fault = f"{kind}:error={ERRORS[kind]}:when={number}"
+        what, journal = f"{command.name} {fault}", scene.bytes(command.journal)
+        yield from unlike(what, at_fault(scene, command.words, fault), failed(command.name, file))
+        yield from unlike(f"the journal after {what}", scene.bytes(command.journal) == journal, True)
+        yield from unlike(f"the next one after {what}", scene.run(command.words), (0, command.says, ""))
+        yield from unlike(f"the tiles after {what}", scene.bytes(command.tiles) == whole, True)
+        yield from unlike(f"the log after {what}", asked(scene, command), (0, "", True))
 
 
 def stopping(scene, command):

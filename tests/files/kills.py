@@ -5,7 +5,7 @@ import resource
 import signal
 import time
 
-from .commands import ADDING, BEGINNING, added, asked
+from .commands import ADDING, ASKS, BEGINNING, added, asked
 from .folder import unlike
 from .locks import acknowledged, misplaced
 
@@ -57,7 +57,7 @@ def check_kills(folder, kills):
 
 
 def check_kills_again(scene, kills):
-    """`landmark`, `switch` and `advance` are killed at random times: the journal opens, and the command given again says whether its record is there"""
+    """`landmark`, `switch`, `advance` and `child` are killed at random times: the journal opens, and the command given again says whether its record is there"""
     for command in ADDING:
         if not command.again or command.name == "tile":
             continue
@@ -88,9 +88,9 @@ def new_file(scene, asks):
 
 
 def check_first_kills(scene, kills):
-    """`init-log` and `init-cosigner` are killed at random times: what is left is no file, one that is refused, or the whole journal"""
+    """`init-log`, `init-cosigner` and `init-cosigner2` are killed at random times: what is left is no file, one that is refused, or the whole journal"""
     for command in BEGINNING:
-        asks = {"init-log": "checkpoint", "init-cosigner": "export"}[command.name]
+        asks = ASKS[command.is_of_log]
         scene.restore()
         span, reported, found = seconds(scene, command.words), 0, {}
         for number in range(kills):

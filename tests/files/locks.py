@@ -78,7 +78,7 @@ def check_others(scene, _kills):
             if command.is_of_log:
                 yield from unlike(f"{command.name} with mode {bits:o}", (status, err), (0, ""))
             else:
-                yield from unlike(f"{command.name} with mode {bits:o}", (status, out, err), failed(command.name, "s"))
+                yield from unlike(f"{command.name} with mode {bits:o}", (status, out, err), failed(command.name, command.journal))
                 yield from unlike(f"files after {command.name}", scene.changed(), [])
             (scene.path / command.journal).chmod(0o600)
 

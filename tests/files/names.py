@@ -5,7 +5,7 @@ import os
 import shutil
 from pathlib import Path
 
-from .commands import COMMANDS, COSIGNER, HEADER, LOG, records
+from .commands import COSIGNER, HEADER, LOG, LOGS, ON_LOGS, records
 from .folder import failed, locked, unlike
 from .tracing import traced, wants_trace
 
@@ -108,13 +108,14 @@ def check_hard_links(scene, _kills):
 
 def check_tiles_that_lead_back(scene, _kills):
     """Where the name of a log's tiles leads to the log's journal, no command works on it, and the journal stays"""
-    before = scene.bytes("j")
-    for link in ((scene.path / "j.tiles").symlink_to, (scene.path / "j.tiles").hardlink_to):
-        (scene.path / "j.tiles").unlink()
-        link(scene.path / "j")
-        for command in (command for command in COMMANDS if command.tiles):
-            wanted = failed(command.name, command.tiles)
-            yield from unlike(command.name, (scene.run(command.words), scene.bytes("j") == before), (wanted, True))
+    for name in LOGS:
+        before, tiles = scene.bytes(name), scene.path / f"{name}.tiles"
+        for link in (tiles.symlink_to, tiles.hardlink_to):
+            tiles.unlink()
+            link(scene.path / name)
+            for command in ON_LOGS:
+                wanted = failed(command.name, tiles.name)
+                yield from unlike(command.name, (scene.run(command.on(name)), scene.bytes(name) == before), (wanted, True))
 
 
 def other_tiles(scene):
@@ -147,8 +148,8 @@ def check_tiles_of_others(scene, _kills):
     scene.kept = scene.files()
     for what, make in other_tiles(scene):
         before = led_to(scene, make)
-        for command in (command for command in COMMANDS if command.tiles):
-            found, wanted = scene.run(command.words), failed(command.name, command.tiles)
+        for command in ON_LOGS:
+            found, wanted = scene.run(command.on("j")), failed(command.name, "j.tiles")
             yield from unlike(f"{command.name}, {what}", (found, scene.files() == before), (wanted, True))
     yield from unlike("a file that a link leads to", (scene.path / "nowhere").exists(), False)
 
@@ -162,8 +163,8 @@ def check_no_journal(scene, _kills):
     (scene.path / "linked.tiles").symlink_to("nowhere")
     before, names = scene.files(), scene.names()
     for name in (*kinds, "linked"):
-        for command in (command for command in COMMANDS if command.tiles):
-            found = scene.run([command.name, name, *command.words[2:]])
+        for command in ON_LOGS:
+            found = scene.run(command.on(name))
             yield from unlike(f"{command.name} {name}", found, (2, "", command.line(name, "NotJournal")))
     yield from unlike("the files", (scene.files() == before, scene.names()), (True, names))
 
@@ -175,8 +176,8 @@ def without_room(scene):
         yield from unlike("init-log", scene.run("init-log made 32473.1 2 9"), (0, "log 32473.1\n", ""))
         (scene.path / "made").rename(scene.path / log)
         before = scene.bytes(log)
-        for command in (command for command in COMMANDS if command.tiles):
-            found = scene.run([command.name, log, *command.words[2:]])
+        for command in ON_LOGS:
+            found = scene.run(command.on(log))
             yield from unlike(f"{command.name}, {length} bytes", found, failed(command.name, f"{log}.tiles"))
         yield from unlike(f"the log of {length} bytes", scene.bytes(log) == before, True)
         (scene.path / log).rename(scene.path / "renamed")

@@ -129,7 +129,8 @@ class Judged(Scene):
 INPUTS = ["FILE", "CERT", "STORE", "REQUEST", "REQUESTS", "SECRET", "SIGNATURES", "LIST", "ENTRIES", "EXPORT"]
 READING = [
     ("member member", "member 0\n"), ("show light", None), (f"verify light trusting {NOW}", "accepted 1\n"),
-    ("keygen 5 4 secret", None), (f"init-cosigner new {COSIGNER} {LOG} 5 4 secret", None), ("issue j r", "issued 257\n"),
+    ("keygen 5 4 secret", None), (f"init-cosigner new {COSIGNER} {LOG} 5 4 secret", None),
+    (f"init-cosigner2 new {COSIGNER} {LOG} 5 5 4 secret", None), ("issue j r", "issued 257\n"),
     ("issue-list j list", "issued 257\nissued 258\n"), ("advance s forward", "advanced 257\n"), ("cosign s part", None),
     ("cert j 1 0 4 none", None), ("certs j 1 3 0 4 none", None),
     ("trust-landmarks marks 2 entries", None), (f"audit light trusting {NOW} entries none", "stands 1\n"),
@@ -174,7 +175,8 @@ def check_no_files(scene, _kills):
             name = words.split()[0]
             wanted = (7, "", f"mtc: {name}: {journal}: Exists\n")
             yield from unlike(f"{name} {journal}", scene.run(words.format(journal), seconds=AWAITED), wanted)
-        for words in ("checkpoint {}", "issue {} r", "tile {}", "export {}", "cosign {} part", "advance {} forward"):
+        for words in ("checkpoint {}", "issue {} r", "tile {}", "export {}", "cosign {} part", "advance {} forward", "child {}",
+                      "tile-anew {}"):
             name = words.split()[0]
             yield from unlike(f"{name} {journal}", scene.run(words.format(journal), seconds=AWAITED), failed(name, journal))
     yield from unlike("the folder", scene.names(), before)

@@ -60,7 +60,7 @@ def traced(folder, words, *more):
 
 def at_fault(folder, words, fault):
     """How a command ends of which a call of the system fails, or brings a signal: of those on files of the folder alone."""
-    names = ["j", "j.tiles", "s", "new", "new.tiles", "."]
+    names = ["j", "j.tiles", "t", "t.tiles", "s", "c", "new", "new.tiles", "."]
     paths = [part for file in names for part in ("-P", (folder.path / file).resolve())]
     watched = ["-e", f"trace={fault.split(':')[0]}", "-e", f"inject={fault}"]
     return folder.run(words, before=["strace", "-qq", "-o", new_trace(folder), *watched, *paths])
@@ -93,9 +93,8 @@ def opening(scene, command):
 
 
 def appending(command):
-    """The calls by which a command adds its record, if it has one: the tiles before it, the record and its sync, then its
-    commit byte and its sync."""
-    if not (command.adds or command.begins):
-        return []
-    tiles = [f"fsync {command.tiles}", f"pwrite64 {command.tiles}", f"fsync {command.tiles}"] if command.name == "tile" else []
-    return [*tiles, *[f"pwrite64 {command.journal}", f"fsync {command.journal}"] * 2]
+    """The calls by which a command writes tiles, if it does so: a sync, one tile and its sync; and by which it then adds its record,
+    if it has one: the record and its sync, then its commit byte and its sync."""
+    tiles = [f"fsync {command.tiles}", f"pwrite64 {command.tiles}", f"fsync {command.tiles}"] if command.writes_tiles else []
+    record = [f"pwrite64 {command.journal}", f"fsync {command.journal}"] * 2 if command.adds or command.begins else []
+    return [*tiles, *record]

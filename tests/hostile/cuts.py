@@ -1,13 +1,15 @@
 """Files that are cut or longer, and such with other records or items, and what the commands on them have to say."""
 
-from itertools import product
+from itertools import chain, product
 
 from cosigned_log import vector
 from reference import cosigner, journal
 from reference.cosigner import Sign
 from reference.hss import u32
+from reference.log import BATCH, batch_body
 
-from .scenes import LARGER, LATER, SPAN, advance, advanced, export, items, log, log_bodies, sign_body, steps
+from .scenes import LARGER, LATER, SPAN, advance, advanced, batch_bodies, export, items, log, log_bodies, lower_export
+from .scenes import lower_settings, lower_steps, sign_body, steps, used_up
 from .single_bytes import answered, found, scenes
 
 
@@ -38,20 +40,45 @@ def bodies():
     return [*steps(), sign(1, *SPAN, LATER), cosigner.advance_body(advance(LARGER, LATER)), sign(2, 4, 6, LARGER)]
 
 
-def exported(records):
-    """The export with these records."""
-    return export()[:-sum(4 + len(body) for body in steps())] + b"".join(u32(len(body)) + body for body in records)
+def exported(whole, old, records):
+    """An export with these records in place of the old ones."""
+    return whole[:-sum(4 + len(body) for body in old)] + b"".join(u32(len(body)) + body for body in records)
+
+
+def lower_bodies():
+    """The records of a longer export of a key of two levels."""
+    return [*lower_steps(), sign(1, *SPAN, LATER)]
+
+
+def batches():
+    """Records of the items of the log in place of its first ones: an item is missing, doubled or moved, or another count stands there."""
+    whole = batch_body(items()[1:3])
+    yield from map(batch_body, lists_of(items()[1:4]))
+    yield from (bytes([BATCH]) + count.to_bytes(2, "big") + whole[3:] for count in (0, 1, 3, 256, 512))
 
 
 def lists():
     """a record of an export or of a journal, an item of an entries file or a part of one, is missing, doubled or moved"""
     first, *_ = journal.bodies(advanced())
     for parts in lists_of(bodies()):
-        yield "export", exported(parts)
+        yield "export", exported(export(), steps(), parts)
+    for parts in lists_of(lower_bodies()):
+        yield "export-of-two", exported(lower_export(), lower_steps(), parts)
     for parts in lists_of([first, *bodies()[:4]]):
         yield "journal", journal.written(parts)
+    for label, parts in product(("journal-of-two", "child"), lists_of([lower_settings(), *lower_bodies()])):
+        yield label, journal.written(parts)
+    *used, last = used_up()
+    for parts in lists_of([*([body] for body in used[:3]), used[3:], [last], [cosigner.child_body(1, 5)]]):
+        yield "next-child", journal.written(chain(*parts))
     for label, parts in product(("log", "issue", "cert"), lists_of(log_bodies())):
         yield label, journal.written(parts)
+    for label, parts in product(("batches", "certs"), lists_of(batch_bodies())):
+        yield label, journal.written(parts)
+    settings, _, *later = batch_bodies()
+    for label, batch in product(("batches", "certs"), batches()):
+        yield label, journal.written([settings, batch])
+        yield label, journal.written([settings, batch, *later])
     for parts in lists_of([vector(text) + vector(key) for text, key in items()[:4]]):
         yield "entries", b"".join(parts)
     for parts in lists_of([vector(text) for item in items()[:3] for text in item]):

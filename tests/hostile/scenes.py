@@ -6,7 +6,7 @@ from hashlib import sha384
 
 from cosigned_log import vector
 from hss_vectors import Tree
-from reference import certificate, cosigner, entry, journal, log as log_records, merkle, request, store
+from reference import certificate, cosigner, entry, journal, log as log_records, merkle, proof, request, store
 from reference.cosigner import Advance, Sign
 from reference.hss import u32
 
@@ -112,6 +112,65 @@ def secret():
 
 
 @cache
+def lower_signer():
+    """The public key of two levels of a cosigner with this secret, and its signature of the certificate's subtree."""
+    upper = Tree(HEIGHT_5, WIDTH_1, secret())
+    # The places above the chains and the randomizer of a one-time key.
+    lower = Tree(HEIGHT_5, WIDTH_1, upper.secret_at(0, 65534)[:16] + upper.secret_at(0, 65535))
+    message = proof.signed_bytes(store.anchor_id(COSIGNERS[0]), store.anchor_id(LOG), *SPAN, log().hash(*SPAN))
+    signature = u32(1) + upper.signature(0, lower.public()) + lower.public() + lower.signature(0, message)
+    return u32(2) + upper.public(), signature
+
+
+@cache
+def lower_steps():
+    """The records of that cosigner: it advances, makes a lower tree, signs the subtree, and advances again."""
+    first, *later = steps()
+    return [first, cosigner.child_body(0, 5), *later]
+
+
+def lower_export():
+    """What it exports."""
+    prefix = short(store.anchor_id(COSIGNERS[0])) + short(store.anchor_id(LOG)) + vector(lower_signer()[0])
+    return prefix + b"".join(u32(len(body)) + body for body in lower_steps())
+
+
+def lower_cosigned():
+    """The certificate with its signature."""
+    return signed([(store.anchor_id(COSIGNERS[0]), lower_signer()[1])])
+
+
+def lower_ruled():
+    """A store by whose rule this certificate is accepted."""
+    known = {"id": COSIGNERS[0], "key": base64.b64encode(lower_signer()[0]).decode()}
+    return headed({"log": {"id": LOG}, "cosigner": [known], "rule": [{"cosigners": COSIGNERS[:1], "count": 1}]})
+
+
+def lower_settings():
+    """The body of the first record of its journal."""
+    ids = short(store.anchor_id(COSIGNERS[0])) + short(store.anchor_id(LOG))
+    return bytes([cosigner.COSIGNER_2]) + ids + u32(HEIGHT_5) + u32(HEIGHT_5) + u32(WIDTH_1) + secret()
+
+
+def childless():
+    """Its journal when it has no lower tree yet."""
+    return journal.written([lower_settings(), *lower_steps()[:1]])
+
+
+def with_child():
+    """Its journal when it has signed the subtree, and holds no more of the log yet."""
+    return journal.written([lower_settings(), *lower_steps()[:-1]])
+
+
+@cache
+def used_up():
+    """Its records when each key of the lower tree has signed the subtree."""
+    path = log().proof(*SPAN, 0, HELD)
+    signs = [sign_body(Sign(number, *SPAN, log().hash(*SPAN), path)) for number in range(1 << HEIGHT_5)]
+    return [lower_settings(), *lower_steps()[:2], *signs]
+
+
+@cache
 def advanced():
     """The journal of a cosigner that holds a part of the log."""
     ids = short(store.anchor_id(COSIGNERS[0])) + short(store.anchor_id(LOG))
@@ -122,6 +181,12 @@ def advanced():
 def advance_request():
     """The request to hold more of the log."""
     return short(store.anchor_id(LOG)) + cosigner.advance_body(advance(LARGER, HELD))[1:]
+
+
+def item_of(name, byte, form):
+    """An entry of this form for a domain, with a key of such bytes."""
+    key = KEY_HEAD + bytes([byte] * 32)
+    return request.entry(request.Request([FIRST, LAST], [name], None, key), LOG, form), key
 
 
 def log_settings():
@@ -139,15 +204,26 @@ def log_bodies():
     """The records of a longer log, the first entry of which is that of the certificate `small`: two entries, each with a
     landmark after it, a switch and an entry that names the algorithm of its key."""
     first, second = (log_records.entry_body(*item) for item in items()[1:3])
-    key = KEY_HEAD + bytes([3] * 32)
-    asked_for = request.Request([FIRST, LAST], ["named.example"], None, key)
-    named = log_records.entry_body(request.entry(asked_for, LOG, 2), key)
+    named = log_records.entry_body(*item_of("named.example", 3, 2))
     return [log_settings(), first, log_records.landmark_body(2), second, log_records.landmark_body(3), log_records.switch_body(3), named]
 
 
 def grown_log():
     """The journal of that log."""
     return journal.written(log_bodies())
+
+
+@cache
+def batch_bodies():
+    """The records of the same log, where entries that follow one another stand in one record."""
+    settings, _, _, _, landmark, switch, _ = log_bodies()
+    named = [item_of("named.example", 3, 2), item_of("again.example", 4, 2)]
+    return [settings, log_records.batch_body(items()[1:3]), landmark, switch, log_records.batch_body(named)]
+
+
+def batched_log():
+    """The journal of that log."""
+    return journal.written(batch_bodies())
 
 
 def issue_request():

@@ -4,14 +4,16 @@ import os
 from functools import cache
 from itertools import product
 
-from reference import commands
+from reference import commands, journal
 
 from .files import asked
 from .rows import audit_words, changed, log_words, verify_words
-from .scenes import LARGER, advance_request, advanced, cosigned, entries, export, grown_log, issue_request, ruled, trusting
+from .scenes import LARGER, advance_request, advanced, batched_log, childless, cosigned, entries, export, grown_log, issue_request
+from .scenes import lower_cosigned, lower_export, lower_ruled, ruled, trusting, used_up, with_child
 
-# Sixteen values of a byte of DER and of other bytes, and of TOML: small numbers, lengths and tags, signs and digits.
+# Sixteen values of a byte of DER and of other bytes, of records, and of TOML: small numbers, lengths and tags, signs and digits.
 BYTES = bytes.fromhex("00 01 02 03 04 12 13 1f 20 30 31 40 7f 80 81 ff")
+RECORDS = bytes.fromhex("00 01 02 03 04 05 06 07 11 12 13 14 15 20 80 ff")
 SIGNS = b"\0\n \"#,-.02=[\\]e\x80"
 EACH = bytes(range(256))
 
@@ -21,17 +23,24 @@ def scenes():
     """The words and the files of a run, with the file of which the bytes are set and their values, by its label."""
     small = {"c": asked()["small"], "store": trusting()}
     ruled_by, held = {"c": cosigned(), "store": ruled()}, {"j": grown_log()}
+    lower, asked_for = {"c": lower_cosigned(), "store": lower_ruled()}, {"r": advance_request()}
     words = log_words()
     return {
         "certificate": (verify_words(), small, "c", BYTES),
         "store": (verify_words(), ruled_by, "store", SIGNS),
         "export": (audit_words(), {**ruled_by, "e": entries(LARGER), "x": export()}, "x", BYTES),
         "entries": (audit_words(), {**small, "e": entries(2), "x": b""}, "e", BYTES),
-        "journal": (["advance", "s", "r"], {"s": advanced(), "r": advance_request()}, "s", BYTES),
-        "request": (["advance", "s", "r"], {"s": advanced(), "r": advance_request()}, "r", BYTES),
+        "journal": (["advance", "s", "r"], {"s": advanced(), **asked_for}, "s", BYTES),
+        "request": (["advance", "s", "r"], {"s": advanced(), **asked_for}, "r", BYTES),
+        "export-of-two": (audit_words(), {**lower, "e": entries(LARGER), "x": lower_export()}, "x", RECORDS),
+        "journal-of-two": (["advance", "s", "r"], {"s": with_child(), **asked_for}, "s", RECORDS),
+        "child": (["child", "s"], {"s": childless()}, "s", RECORDS),
+        "next-child": (["child", "s"], {"s": journal.written(used_up())}, "s", RECORDS),
         "log": (words["checkpoint"], held, "j", BYTES),
         "issue": (words["issue"], {**held, "r": issue_request()}, "j", BYTES),
         "cert": (words["cert"], {**held, "e": b""}, "j", BYTES),
+        "batches": (words["checkpoint"], {"j": batched_log()}, "j", RECORDS),
+        "certs": ("certs j 1 4 0 4 e".split(), {"j": batched_log(), "e": b""}, "j", RECORDS),
     }
 
 
@@ -107,4 +116,25 @@ def logs():
     return cases("log")
 
 
-KINDS = [(kind, wanted, said) for kind in (certificates, stores, exports, entries_files, requests, journals, logs)]
+def batches():
+    """the same of the journal of a log with several entries in one record"""
+    return cases("batches")
+
+
+def exports_of_two():
+    """the same of an export of a key of two levels"""
+    return cases("export-of-two")
+
+
+def journals_of_two():
+    """the same of the journal of its cosigner, which is to advance"""
+    return cases("journal-of-two")
+
+
+def children():
+    """the same of its journal when it is to make its first lower tree"""
+    return cases("child")
+
+
+OF_ONE_LEVEL = [certificates, stores, exports, entries_files, requests, journals, logs]
+KINDS = [(kind, wanted, said) for kind in (*OF_ONE_LEVEL, batches, exports_of_two, journals_of_two, children)]

@@ -89,9 +89,17 @@ def advance(words, files):
     _, name, file = words
     log, asked = checked(words, file, 2, cosigner.advance_request, files[file])
     held = checked(words, name, 2, cosigner.opened, files[name])
-    checked(words, None, 4, cosigner.advanced, *held, log, asked)
+    checked(words, None, 4, cosigner.advanced, held, log, asked)
     files[name] = journal.appended(files[name], cosigner.advance_body(asked))
     return lines(f"advanced {asked.size}")
+
+
+def child(words, files):
+    _, name = words
+    held = checked(words, name, 2, cosigner.opened, files[name])
+    checked(words, None, 4, cosigner.next_child, held)
+    files[name] = journal.appended(files[name], cosigner.child_body(held.state.children, held.state.lower))
+    return lines(f"child {held.state.children}")
 
 
 def opened_log(words, files):
@@ -204,8 +212,8 @@ def certs(words, files):
     return b"".join(pem(certificate_in(held, index, start, end, files[file])) for index in range(first, last))
 
 
-COMMANDS = {"show": show, "verify": verify, "audit": audit, "advance": advance, "checkpoint": checkpoint, "issue": issue,
-            "cert": cert, "switch": switch, "issue-list": issue_list, "certs": certs}
+COMMANDS = {"show": show, "verify": verify, "audit": audit, "advance": advance, "child": child, "checkpoint": checkpoint,
+            "issue": issue, "cert": cert, "switch": switch, "issue-list": issue_list, "certs": certs}
 
 
 def answer(words, files):

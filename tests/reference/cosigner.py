@@ -8,9 +8,9 @@ from .hss import LMOTS, LMS, is_hss_key, number_at
 from .proof import HASH, Cursor, path_in
 from .store import is_anchor_id
 
-COSIGNER, ADVANCE, SIGN, SECRET = 0x11, 0x12, 0x13, 48
-# A cosigner's key has one level, of one of these heights.
-HEIGHTS = (5, 10)
+COSIGNER, ADVANCE, SIGN, CHILD, COSIGNER_2, SECRET = 0x11, 0x12, 0x13, 0x14, 0x15, 48
+# A cosigner's key has one level or two, each of one of these heights.
+HEIGHTS, MOST_LEVELS = (5, 10), 2
 
 
 class Advance(NamedTuple):
@@ -31,12 +31,37 @@ class Sign(NamedTuple):
     proof: list
 
 
+class Child(NamedTuple):
+    """A further lower tree of a cosigner's key, with the typecode of its height."""
+
+    number: int
+    lms: int
+
+
+class Key(NamedTuple):
+    """The levels of a cosigner's key, and the height of its tree, which is the upper one of two."""
+
+    levels: int
+    height: int
+
+
 class State(NamedTuple):
-    """The size and the root that a cosigner holds, and how often it has signed."""
+    """The size and the root that a cosigner holds, how often it has signed, how many lower trees there are, and their height,
+    if it is known."""
 
     size: int
     root: bytes
     signed: int
+    children: int
+    lower: int | None
+
+
+class Opened(NamedTuple):
+    """The log of a cosigner, its key, and the state that its records lead to."""
+
+    log: bytes
+    key: Key
+    state: State
 
 
 class Export(NamedTuple):
@@ -53,7 +78,7 @@ class Refusal(Fault):
     """Why what a file asks for isn't done, where the file is in its form."""
 
 
-NEW = State(0, merkle.NO_ENTRIES, 0)
+NEW = State(0, merkle.NO_ENTRIES, 0, 0, None)
 
 
 def close(cursor):
@@ -91,9 +116,14 @@ def step(body):
     """The step of a record's body."""
     cursor = Cursor(body, 0, len(body))
     tag = cursor.number(1)
-    if tag not in (ADVANCE, SIGN):
+    if tag == ADVANCE:
+        found = advance_at(cursor)
+    elif tag == SIGN:
+        found = sign_at(cursor, cursor.number(4))
+    elif tag == CHILD:
+        found = Child(cursor.number(4), cursor.number(4))
+    else:
         raise Fault("WrongTag")
-    found = advance_at(cursor) if tag == ADVANCE else sign_at(cursor, cursor.number(4))
     close(cursor)
     return found
 
@@ -110,12 +140,29 @@ def is_part(state, asked):
     return merkle.is_consistent(asked.start, asked.end, asked.node, state.size, state.root, asked.proof)
 
 
-def following(state, keys, found):
-    """The state after a step, of a cosigner with so many one-time keys; none where the step breaks the rules."""
+def one_time_keys(key, state):
+    """How many one-time keys of a cosigner may sign: those of its tree, or of the lower trees that there are."""
+    if key.levels == 1:
+        return 1 << key.height
+    return state.children << state.lower if state.children else 0
+
+
+def with_child(state, key, found):
+    """The state after a further lower tree, which follows when all keys of the others have signed."""
+    lower = LMS.get(found.lms)
+    fits = key.levels == 2 and found.number == state.children < 1 << key.height
+    fits = fits and lower in HEIGHTS and state.lower in (None, lower) and state.signed == one_time_keys(key, state)
+    return state._replace(children=state.children + 1, lower=lower) if fits else None
+
+
+def following(state, key, found):
+    """The state after a step of a cosigner with this key; none where the step breaks the rules."""
     if isinstance(found, Advance):
         fits = state.size < found.size and leads_to(state, found)
-        return State(found.size, found.root, state.signed) if fits else None
-    fits = found.number == state.signed < keys and is_part(state, found)
+        return state._replace(size=found.size, root=found.root) if fits else None
+    if isinstance(found, Child):
+        return with_child(state, key, found)
+    fits = found.number == state.signed < one_time_keys(key, state) and is_part(state, found)
     return state._replace(signed=state.signed + 1) if fits else None
 
 
@@ -128,18 +175,18 @@ def id_at(cursor):
 
 
 def key_at(cursor):
-    """The public key after its length, and how many one-time keys it has."""
+    """The public key after its length, and what it says of the trees."""
     key = cursor.vector(2)
-    if not is_hss_key(key) or number_at(key, 0) != 1 or LMS[number_at(key, 4)] not in HEIGHTS:
+    if not is_hss_key(key) or number_at(key, 0) > MOST_LEVELS or LMS[number_at(key, 4)] not in HEIGHTS:
         raise Fault("BadKey")
-    return key, 1 << LMS[number_at(key, 4)]
+    return key, Key(number_at(key, 0), LMS[number_at(key, 4)])
 
 
-def record(body, state, keys, place):
+def record(body, state, key, place):
     """The step of a record, and the state after it."""
     try:
         found = step(body)
-        after = following(state, keys, found)
+        after = following(state, key, found)
     except Fault:
         after = None
     if after is None:
@@ -153,9 +200,9 @@ def export(text):
         return None
     cursor, steps, state = Cursor(text, 0, len(text)), [], NEW
     cosigner, log = id_at(cursor), id_at(cursor)
-    key, keys = key_at(cursor)
+    key, trees = key_at(cursor)
     while cursor.place < cursor.end:
-        found, state = record(cursor.vector(4), state, keys, len(steps) + 1)
+        found, state = record(cursor.vector(4), state, trees, len(steps) + 1)
         steps.append(found)
     return Export(cosigner, log, key, steps, state)
 
@@ -166,42 +213,63 @@ def advance_body(asked):
     return bytes([ADVANCE]) + asked.size.to_bytes(8, "big") + asked.root + len(hashes).to_bytes(2, "big") + hashes
 
 
+def child_body(number, lower):
+    """The body of the record of a lower tree of this height."""
+    typecode = next(code for code, height in LMS.items() if height == lower)
+    return bytes([CHILD]) + number.to_bytes(4, "big") + typecode.to_bytes(4, "big")
+
+
 def settings(body):
-    """The id of the log, and the number of one-time keys, in the first record of a journal."""
+    """The cosigner of the first record of a journal."""
     cursor = Cursor(body, 0, len(body))
-    if cursor.number(1) != COSIGNER:
+    tag = cursor.number(1)
+    if tag not in (COSIGNER, COSIGNER_2):
         raise Fault("WrongTag")
     _, log = id_at(cursor), id_at(cursor)
-    lms, ots = cursor.number(4), cursor.number(4)
+    types = [cursor.number(4) for _ in range(1 if tag == COSIGNER else 2)]
+    ots = cursor.number(4)
     cursor.bytes(SECRET)
     close(cursor)
-    if LMS.get(lms) not in HEIGHTS or ots not in LMOTS:
+    heights = [LMS.get(lms) for lms in types]
+    if any(height not in HEIGHTS for height in heights) or ots not in LMOTS:
         raise Fault("BadType")
-    return log, 1 << LMS[lms]
+    lower = heights[1] if len(heights) == 2 else None
+    return Opened(log, Key(len(heights), heights[0]), NEW._replace(lower=lower))
 
 
 def opened(text):
-    """The log of the cosigner of a journal, and the state that its records lead to."""
-    found, state, count = None, NEW, 0
+    """The cosigner of a journal."""
+    found, count = None, 0
     for body in journal.bodies(text):
         try:
             if found is None:
                 found = settings(body)
             else:
-                _, state = record(body, state, found[1], count)
+                found = found._replace(state=record(body, found.state, found.key, count)[1])
         except Fault:
             raise Fault("BadRecord", count) from None
         count += 1
     if found is None:
         raise Fault("BadRecord", 0)
-    return found[0], state
+    return found
 
 
-def advanced(log, state, asked_log, asked):
-    """That a cosigner of this log may hold what it is asked to; else the refusal of its state."""
-    if asked_log != log:
+def advanced(held, asked_log, asked):
+    """That a cosigner may hold what it is asked to; else the refusal of its state."""
+    if asked_log != held.log:
         raise Refusal("WrongLog")
-    if asked.size <= state.size:
-        raise Refusal("NotNewer", state.size)
-    if not leads_to(state, asked):
+    if asked.size <= held.state.size:
+        raise Refusal("NotNewer", held.state.size)
+    if not leads_to(held.state, asked):
         raise Refusal("BadProof")
+
+
+def next_child(held):
+    """That a cosigner's key may have a further lower tree; else the refusal of its state."""
+    if held.key.levels == 1:
+        raise Refusal("OneLevel")
+    left = one_time_keys(held.key, held.state) - held.state.signed
+    if left:
+        raise Refusal("ChildLeft", left)
+    if held.state.children == 1 << held.key.height:
+        raise Refusal("Exhausted")

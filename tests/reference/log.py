@@ -9,7 +9,7 @@ from .fault import Fault
 from .proof import Cursor
 
 LOG, ENTRY, LANDMARK, TILES, SWITCH, BATCH = 1, 2, 3, 4, 5, 6
-MOST_ACTIVE, MOST_ENTRIES, TILE = 10_000, 1 << 20, 256
+MOST_ACTIVE, MOST_ENTRIES, TILE = 10_000, 1 << 24, 256
 NULL = bytes(2)
 
 

@@ -166,8 +166,8 @@ def wrong_disks(scene, folder):
     yield from differ("one by one", (hour(scene, **stand_in(scene, line))[0], has()), (0, [True, True]))
 
 
-def day(scene, **env):
-    return scene.tool("cosigner_day.sh", "c", "kept", env=env)
+def day(scene, folder="c", kept="kept", **env):
+    return scene.tool("cosigner_day.sh", folder, kept, env=env)
 
 
 def fetch(scene):
@@ -203,6 +203,14 @@ def check_cosigner_day(scene):
     fetch(scene)
     yield from differ("the next day", day(scene), (0, b"advanced 3\n", ""))
     yield from differ("its export", b"size 3\n" in scene.mtc("held", "c/export"), True)
+    scene.file("other", b"t" * 48)
+    (scene.path / "d").mkdir()
+    scene.mtc("init-cosigner2", "d/journal", "32473.3", LOG, 5, 5, 1, "other")
+    scene.run(TOOLS / "guarded_cosign.sh", "begin", "d/journal", "kept_of_two")
+    scene.mtc("consist", "a/log", 0, 3, into="d/consist")
+    scene.mtc("subtree", "a/log", 0, 2, 3, into="d/subtree")
+    yield from differ("a key of two levels", day(scene, "d", "kept_of_two"), (0, b"advanced 3\n", ""))
+    yield from differ("its signature is its first", b"signs 1\n" in scene.mtc("held", "d/export"), True)
     scene.mtc("init-log", "fork", LOG, 4, 64)
     for name in ("c.example", "d.example", "e.example"):
         scene.file("r", request(name))
