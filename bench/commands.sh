@@ -1,5 +1,5 @@
 #!/bin/bash
-# What each command takes over a log of 1,048,576 entries, the most that one may have: seconds of the processor, the least of three
+# What each command takes over a log of 1,048,576 entries: seconds of the processor, the least of three
 # runs, or of as many as the variable ROUNDS says, since work can only be held up, and the most memory that it held. Commands that
 # append run over a copy of a log that has room for what they append. The cosigner's key has height 10 and width 8.
 # With --instructions it counts in place of that the instructions that each command executes in user mode, which other work on the

@@ -1,5 +1,5 @@
 #!/bin/bash
-# Opens logs of up to 1,048,576 entries, the most that a log may have, without tiles, with tiles that were stored at once, and
+# Opens logs of up to 1,048,576 entries without tiles, with tiles that were stored at once, and
 # with tiles that were stored as the log grew, and prints seconds and the most memory held: for the tree hash, and for the
 # certificate of one entry in the whole tree. Of the opening alone it prints
 # the processor time, the least of five runs; beside it the time in which openssl reads and hashes the journal's bytes once,

@@ -43,7 +43,7 @@ ranges >"$folder/ranges"
 {
     echo "| Work | Of | Seconds | Memory | Script |"
     echo "|---|---|---|---|---|"
-    figures log cosigners trust audit monitor extensions | awk -F '|' '{ print "| " $2 " | " $3 " | " $4 " | " $5 " | `bench/" $1 ".sh` |" }' |
+    figures log largest cosigners trust audit monitor extensions | awk -F '|' '{ print "| " $2 " | " $3 " | " $4 " | " $5 " | `bench/" $1 ".sh` |" }' |
         sed -E ':again; s/([0-9])([0-9]{3})($|[^0-9])/\1,\2\3/; t again'
 } >"$folder/times"
 

@@ -20,8 +20,10 @@ ROUNDS = int(os.environ.get("ROUNDS", "3"))
 WORKERS = int(os.environ.get("WORKERS", os.cpu_count() or 1))
 # So many requests a list has, and so many certificates.
 MANY = 700
-APPENDING = {"init-log", "issue", "issue-list", "landmark", "switch", "tile", "init-cosigner", "advance", "cosign"}
-SOURCES = {"issue": "short", "issue-list": "brief", "switch": "short", "advance": "early", "cosign": "early-held"}
+APPENDING = {"init-log", "issue", "issue-list", "landmark", "switch", "tile", "tile-anew", "init-cosigner", "init-cosigner2", "advance",
+             "child", "cosign"}
+SOURCES = {"issue": "short", "issue-list": "brief", "switch": "short", "tile-anew": "lost", "advance": "early", "child": "childless",
+           "cosign": "early-held"}
 
 
 class Bench:
@@ -108,6 +110,11 @@ def make_files(bench):
     shutil.copy(bench.folder / "early-held", bench.folder / "cosigner")
     bench.run("cosign", "cosigner", "subtree", into="signature")
     bench.run("export", "cosigner", into="export")
+    bench.run("init-cosigner2", "childless", COSIGNER, LOG, 10, 10, 8, "secret")
+    bench.run("advance", "childless", "consist")
+    shutil.copy(bench.folder / "log", bench.folder / "lost")
+    bench.run("tile", "lost")
+    (bench.folder / "lost.tiles").unlink()
     shutil.copy(bench.folder / "log", bench.folder / "marked")
     bench.run("landmark", "marked")
     bench.run("landmarks", "marked", into="list")
@@ -131,10 +138,11 @@ def lines(bench):
         ("issue new www.request", ""), ("issue-list new requests", f"{MANY} requests"), ("checkpoint log", ""),
         (f"entries log {n}", "all entries"), (f"entries-from log {max(1, n - 256)} {n}", "the last 256"), (f"consist log {n // 2 + 1} {n}", ""),
         (f"subtree log 0 {n} {n}", ""), ("keygen 10 8 secret", "height 10, width 8"),
-        (f"init-cosigner new {COSIGNER} {LOG} 10 8 secret", "height 10, width 8"), ("advance new consist", ""),
-        ("cosign new subtree", "height 10, width 8"), ("export cosigner", "1 signature"), ("landmark new", ""), ("landmarks marked", ""),
+        (f"init-cosigner new {COSIGNER} {LOG} 10 8 secret", "height 10, width 8"),
+        (f"init-cosigner2 new {COSIGNER} {LOG} 10 10 8 secret", "heights 10 and 10, width 8"), ("advance new consist", ""),
+        ("child new", "heights 10 and 10, width 8"), ("cosign new subtree", "height 10, width 8"), ("export cosigner", "1 signature"), ("landmark new", ""), ("landmarks marked", ""),
         (f"light-cert marked {last}", ""), (f"light-certs marked {n - MANY} {n}", f"{MANY} certificates"),
-        ("switch new", ""), ("tile new", "all tiles"), ("trust-landmarks list 2 entries", "1 landmark"),
+        ("switch new", ""), ("tile new", "all tiles"), ("tile-anew new", "all tiles, of a lost file"), ("trust-landmarks list 2 entries", "1 landmark"),
         (f"cert log {last} 0 {n} signature", ""), (f"certs log {n - MANY} {n} 0 {n} signature", f"{MANY} certificates"),
         (f"audit cert store {NOW} entries export", "1 cosignature"), ("quarrel export", "1 signature"),
         ("drill 7", ""), ("root entries", ""), ("held export", "1 signature"), (f"monitor-init {LOG}", ""),
@@ -147,7 +155,7 @@ def main(what, program, folder, entries):
     make_files(bench)
     rows = lines(bench)
     table = (ROOT / "docs/COMMANDS.md").read_text().split("\n## ")[0]
-    lacking = set(re.findall(r"^\| `([a-z-]+)[ `]", table, re.M)) - {words.split()[0] for words, _ in rows}
+    lacking = set(re.findall(r"^\| `([a-z0-9-]+)[ `]", table, re.M)) - {words.split()[0] for words, _ in rows}
     if lacking:
         sys.exit(f"wrong: no line for {', '.join(sorted(lacking))}")
     measured, workers = (bench.measured, 1) if what == "times" else (bench.counted, WORKERS)

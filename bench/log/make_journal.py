@@ -14,7 +14,7 @@ with open(path, "wb") as journal:
     def record(body):
         journal.write(b"\1" + struct.pack(">I", len(body)) + body)
     journal.write(b"mtc-journal/v1\n\0")
-    record(bytes.fromhex("010481fd5901") + struct.pack(">II", 2, 1048576))
+    record(bytes.fromhex("010481fd5901") + struct.pack(">II", 2, 1048576 if count <= 1048576 else 16777216))
     for number in range(1, count):
         key = bytes.fromhex("302a300506032b6570032100") + number.to_bytes(32, "big")
         entry = b"\0\1" + bytes.fromhex("a003020102") + name + fields + b"\4\x20" + hashlib.sha256(key).digest() + names
