@@ -3,7 +3,7 @@
 _mtc() {
     local word=${COMP_WORDS[COMP_CWORD]} kinds=()
     if [ "$COMP_CWORD" -eq 1 ]; then
-        COMPREPLY=($(compgen -W 'member show verify init-log issue issue-list checkpoint entries entries-from consist subtree keygen init-cosigner advance cosign export landmark landmarks light-cert light-certs switch tile trust-landmarks cert certs audit quarrel drill root held monitor-init monitor help version' -- "$word"))
+        COMPREPLY=($(compgen -W 'member show verify init-log issue issue-list checkpoint entries entries-from consist subtree keygen init-cosigner init-cosigner2 advance child cosign export landmark landmarks light-cert light-certs switch tile tile-anew trust-landmarks cert certs audit quarrel drill root held monitor-init monitor help version' -- "$word"))
         return
     fi
     case ${COMP_WORDS[1]} in
@@ -20,7 +20,9 @@ _mtc() {
         subtree) kinds=(J START END SIZE) ;;
         keygen) kinds=(HEIGHT WIDTH SECRET) ;;
         init-cosigner) kinds=(S ID LOGID HEIGHT WIDTH SECRET) ;;
+        init-cosigner2) kinds=(S ID LOGID TOP LOW WIDTH SECRET) ;;
         advance) kinds=(S REQUEST) ;;
+        child) kinds=(S) ;;
         cosign) kinds=(S REQUEST) ;;
         export) kinds=(S) ;;
         landmark) kinds=(J) ;;
@@ -29,6 +31,7 @@ _mtc() {
         light-certs) kinds=(J FIRST LAST) ;;
         switch) kinds=(J) ;;
         tile) kinds=(J) ;;
+        tile-anew) kinds=(J) ;;
         trust-landmarks) kinds=(LIST MAXACTIVE ENTRIES) ;;
         cert) kinds=(J INDEX START END SIGNATURES) ;;
         certs) kinds=(J FIRST LAST START END SIGNATURES) ;;
@@ -42,7 +45,7 @@ _mtc() {
     esac
     case ${kinds[COMP_CWORD - 2]-} in
         J | S | FILE | CERT | STORE | REQUEST | REQUESTS | SECRET | SIGNATURES | LIST | ENTRIES | EXPORT | STATE | WATCH) COMPREPLY=($(compgen -f -- "$word")) ;;
-        HEIGHT) COMPREPLY=($(compgen -W '5 10' -- "$word")) ;;
+        HEIGHT | TOP | LOW) COMPREPLY=($(compgen -W '5 10' -- "$word")) ;;
         WIDTH) COMPREPLY=($(compgen -W '1 2 4 8' -- "$word")) ;;
         *) COMPREPLY=() ;;
     esac
