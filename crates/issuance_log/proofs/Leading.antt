@@ -144,7 +144,7 @@ leading_parts (suc n) bytes h = go (leading_item bytes) refl
         )
 
 -- Items that fit are found before nothing.
-leading_again : (items : List (Text × Text)) → HaveShortItems items
+pub leading_again : (items : List (Text × Text)) → HaveShortItems items
     → (n : ℕ) → length (flat_map item_text items) ≤ n
     → items_within n (flat_map item_text items) ≡ items
 unfolding items_within
@@ -162,12 +162,12 @@ leading_again (x ∷ items) fits (suc n) few =
     (leading_again items fits.1 n (omega (arith, count, item_some x fits.0)))
 
 -- The items of bytes, if nothing follows them.
-abbrev whole_items : Text → Option (List (Text × Text))
+abbrev pub whole_items : Text → Option (List (Text × Text))
 whole_items bytes =
     if is_filled (leading_items bytes) bytes then Some (leading_items bytes) else None
 
 -- They are what is read up to the end.
-whole_is : (a : At) → IsBytes a.rest → whole_of (up_to_end entry_at a) ≡ whole_items a.rest
+pub whole_is : (a : At) → IsBytes a.rest → whole_of (up_to_end entry_at a) ≡ whole_items a.rest
 whole_is a h = go (whole_of (up_to_end entry_at a)) refl
   where
     go : (o : Option (List (Text × Text))) → whole_of (up_to_end entry_at a) ≡ o

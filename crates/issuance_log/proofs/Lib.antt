@@ -9,7 +9,7 @@ mod Prefixes
 pub mod Ids
 pub mod Keeping
 pub mod Leaves
-mod Leading
+pub mod Leading
 mod Leaving
 mod Made
 mod Opening
@@ -27,5 +27,5 @@ mod Standing
 pub mod TakenItems
 mod Taking
 mod Telling
-mod Tiling
+pub mod Tiling
 mod Views

@@ -6,8 +6,9 @@ use Rattle.std.proofs.Common.{ap, subst, sym, ◌∙◌, arith, nat_lt}
 use Rattle.std.specs.Prelude.{if◌then◌else◌, Bool, IfErr, OnOk, Result}
 use Rattle.std.proofs.lemmas.Bool.{le-ltb, lt-ltb}
 use Rattle.std.specs.Result.{IsErrAnd}
-use Rattle.std.proofs.lemmas.List.{drop-drop, drop-take, get_or-map, get_or-take, take-append-le}
-use Rattle.std.proofs.lemmas.List.{take-take, take_all}
+use Rattle.std.proofs.lemmas.List.{drop-drop, drop-take, get_or-map, get_or-take, length-take}
+use Rattle.std.proofs.lemmas.List.{length-take-le, take-append-le, take-take, take_all, take_min}
+use Rattle.std.proofs.lemmas.Option.{same_Some}
 use Rattle.disk_core.specs.Disk.{part}
 use Rattle.byte_formats.specs.Types.{Hash, HashFunction, Text}
 use Rattle.byte_formats.specs.Offsets.{At, at}
@@ -15,9 +16,13 @@ use Rattle.byte_formats.proofs.Steps.{bind_ok, ok_is}
 use Rattle.byte_formats.proofs.Values.{err_is}
 use Rattle.tls_wire.specs.Reading.{vector_at}
 use Rattle.tls_wire.specs.declared.cursor.Short.{Short}
+use Rattle.disk_core.specs.declared.disk.Disk.{Ghosts}
+use Rattle.journal_core.specs.Format.{Represents, following, records_of}
 use Rattle.journal_core.specs.Words.{HoldsBody}
+use Rattle.journal_core.proofs.Steps.{read_body}
 use Rattle.std.specs.Int.{w16, from_be_bytes}
-use Rattle.issuance_log.specs.Entries.{IsLengthAt, IsNoAnswer}
+use Rattle.issuance_log.specs.Batches.{item_and_rest, leading_item}
+use Rattle.issuance_log.specs.Entries.{AgreesWithBody, IsNoAnswer}
 use Rattle.issuance_log.specs.Folds.{LogState, LogView, null_entry}
 use Rattle.issuance_log.specs.Items.{AreKept}
 use Rattle.issuance_log.specs.ItemOffsets.{IsAtOffset, offsets_of}
@@ -155,89 +160,120 @@ gives_item h v offsets leaves (Some list) kept index place entry key some there 
 gives_item h v offsets leaves (Some list) kept index place entry key some there is (Err why) none
     gives = gives_nothing h v offsets leaves (Some list) kept index why entry key there none
 
--- the length that two bytes are, by what was read there
-pub length_back : (place size : ℕ) (read : Text) (o : Option (List Text)) → length read ≡ 2
-    → size ≡ from_be_bytes w16 read → IfSome o (HoldsBody place read)
-    → IfSome o (IsLengthAt place size)
-length_back place size read None two is holds = tt
-length_back place size read (Some list) two is holds = λ prefix body back inside split place_is
-    within.
-    is ∙ ap (from_be_bytes w16) (holds prefix body back inside split (omega (arith, place_is))
-    (omega (arith, within, two)) ∙ ap (λ (n : ℕ). part inside n body) two)
+-- ---- what was read
 
--- all bytes of a vector were read
-pub bytes_back : (place size len : ℕ) (out items : Text) (o : Option (List Text))
-    → length out ≡ size → length items ≡ size → len ≡ size → IfSome o (HoldsBody place out)
-    → IfSome o (HoldsBody place (take len (out ++ drop (length out) items)))
-bytes_back place size len out items o of_out of_items of_len holds =
-    subst (λ (t : Text). IfSome o (HoldsBody place t)) (sym
-    (take-append-le len out (drop (length out) items) (omega arith)
-    ∙ take_all len out (omega arith))) holds
+each_count : (P : ℕ → List Text → Type 0) (o : Option (List Text)) → ((n : ℕ) → IfSome o (P n))
+    → IfSome o (λ list. (n : ℕ) → P n list)
+each_count P None holds = tt
+each_count P (Some list) holds = holds
 
--- the item at an offset, by the length of its entry, by the entry with the length of its key, and
--- by the key
-item_found : (place size : ℕ) (first second : Text) (list : List Text) → IsLengthAt place size list
-    → HoldsBody (place + 2) first list → length first ≡ size + 2
-    → HoldsBody (place + 2 + (size + 2)) second list
-    → length second ≡ from_be_bytes w16 (drop size first) → (item : Text × Text)
-    → IsAtOffset list place item → item ≡ (take size first, second)
-unfolding entry_at
-item_found place size first second list sized one long two counted item there =
-    let a = at there.body there.inside in
-    let body = there.body in
-    let inside = there.inside in
-    let head = bind_ok (vector_at w16 a) _ (item, there.later) there.is in
-    let rest = bind_ok (vector_at w16 head.0.1) _ (item, there.later) head.2 in
-    let same = ok_is Short ((head.0.0, rest.0.0), rest.0.1) (item, there.later) rest.2 in
-    let entry = vector_read body inside head.0.0 head.0.1 head.1 in
-    let key = vector_read body (inside + 2 + length head.0.0) rest.0.0 rest.0.1
-    (ap (vector_at w16) (sym entry.next) ∙ rest.1) in
-    let size_is : size ≡ length head.0.0 =
-    sized there.prefix body there.back inside there.split there.offset_is
-    (omega (arith, entry.within)) ∙ sym entry.counted in
-    let read : first ≡ take (size + 2) (drop (inside + 2) body) =
-    one there.prefix body there.back (inside + 2) there.split (omega (arith, there.offset_is))
-    (omega (arith, key.within, long, size_is))
-    ∙ ap (λ (n : ℕ). take n (drop (inside + 2) body)) long in
-    let entry_is : head.0.0 ≡ take size first =
-    entry.part ∙ ap (λ (n : ℕ). take n (drop (inside + 2) body)) (sym size_is)
-    ∙ sym (take-take size (size + 2) (drop (inside + 2) body) (omega arith))
-    ∙ ap (take size) (sym read) in
-    let length_is : drop size first ≡ take 2 (drop (inside + 2 + length head.0.0) body) =
-    ap (drop size) read ∙ drop-take size 2 (drop (inside + 2) body)
-    ∙ ap (take 2) (drop-drop size (inside + 2) body)
-    ∙ ap (λ (n : ℕ). take 2 (drop (inside + 2 + n) body)) size_is in
-    let long_key : length second ≡ length rest.0.0 =
-    counted ∙ ap (from_be_bytes w16) length_is ∙ sym key.counted in
-    let second_is : second ≡ take (length second) (drop (inside + 2 + (size + 2)) body) =
-    two there.prefix body there.back (inside + 2 + (size + 2)) there.split
-    (omega (arith, there.offset_is)) (omega (arith, key.within, long_key, size_is)) in
-    let place_is : inside + 2 + length head.0.0 + 2 ≡ inside + 2 + (size + 2) =
-    omega (arith, size_is) in
-    let key_is : rest.0.0 ≡ second =
-    key.part ∙ ap (λ (n : ℕ). take (length rest.0.0) (drop n body)) place_is
-    ∙ ap (λ (n : ℕ). take n (drop (inside + 2 + (size + 2)) body)) (sym long_key)
-    ∙ sym second_is in
-    sym (ap (λ (v : (Text × Text) × At). v.0) same)
-    ∙ ap (λ (t : Text). (t, rest.0.0)) entry_is ∙ ap (λ (t : Text). (take size first, t)) key_is
+-- so many of the first bytes
+first_read : (contents : Option Text) (place size count : ℕ) (read : Text) → length read ≡ size
+    → IfSome contents (λ b. read ≡ part place size b)
+    → IfSome contents (λ b. take count read ≡ part place (length (take count read)) b)
+first_read None place size count read long is = tt
+first_read (Some b) place size count read long is =
+    let few = length-take count read in
+    sym (take_min count read) ∙ ap (λ (n : ℕ). take n read) (sym few)
+    ∙ ap (take (length (take count read))) is
+    ∙ take-take (length (take count read)) size (drop place b) (omega (arith, few, long))
 
-pub item_back : (place size after : ℕ) (first second : Text) (o o' o'' : Option (List Text))
-    → IfSome o (IsLengthAt place size) → o' ≡ o → IfSome o' (HoldsBody (place + 2) first)
-    → length first ≡ size + 2 → after ≡ place + 2 + length first → o'' ≡ o'
-    → IfSome o'' (HoldsBody after second)
-    → length second ≡ from_be_bytes w16 (drop size first)
-    → IfSome o (λ list. (item : Text × Text) → IsAtOffset list place item
-    → item ≡ (take size first, second))
-item_back place size after first second o o' o'' sized same one long after_is same' two counted =
-    each o sized (subst (λ p. IfSome p (HoldsBody (place + 2) first)) same one)
-    (subst (λ (n : ℕ). IfSome o (HoldsBody n second)) (after_is ∙ ap (λ (n : ℕ). place + 2 + n)
-    long) (subst (λ p. IfSome p (HoldsBody after second)) (same' ∙ same) two))
+-- what was read, into the bytes that had been there
+pub bytes_back : {D : Type 0} (g : Ghosts D) (disk : D) (place size len : ℕ) (out items : Text)
+    → ((b : Text) → g.contents disk ≡ Some b → Represents b (records_of b))
+    → length out ≡ size → length items ≡ size → len ≡ size
+    → IfSome (g.contents disk) (λ b. out ≡ part place size b)
+    → IfSome (option_map records_of (g.contents disk))
+    (AgreesWithBody place (take len (out ++ drop (length out) items)))
+bytes_back g disk place size len out items stands of_out of_items of_len is =
+    subst (λ (t : Text). IfSome (option_map records_of (g.contents disk)) (AgreesWithBody place t))
+    (sym (take-append-le len out (drop (length out) items) (omega arith)
+    ∙ take_all len out (omega arith)))
+    (each_count (λ (n : ℕ) (list : List Text). HoldsBody place (take n out) list)
+    (option_map records_of (g.contents disk)) (λ count.
+    read_body g disk place (take count out) stands
+    (first_read (g.contents disk) place size count out of_out is)))
+
+-- the item that was read
+was_read : (read : Text) (x : Text × Text) (rest : Text) → leading_item read ≡ Some (x, rest)
+    → (later : At) × (entry_at (at read 0) ≡ Ok (x, later))
+was_read read x rest is = go (entry_at (at read 0)) is
   where
-    each : (p : Option (List Text)) → IfSome p (IsLengthAt place size)
-        → IfSome p (HoldsBody (place + 2) first)
-        → IfSome p (HoldsBody (place + 2 + (size + 2)) second)
-        → IfSome p (λ list. (item : Text × Text) → IsAtOffset list place item
-        → item ≡ (take size first, second))
-    each None head mid rest = tt
-    each (Some list) head mid rest =
-        item_found place size first second list head mid long rest counted
+    go : (r : Result ((Text × Text) × At) Short) → item_and_rest r ≡ Some (x, rest)
+        → (later : At) × (r ≡ Ok (x, later))
+    go (Err short) e = let wrong : None ≡ Some (x, rest) = e in absurd cc
+    go (Ok v) e =
+        let same = same_Some (v.0, v.1.rest) (x, rest) e in
+        (v.1, ap (λ (y : Text × Text). Ok (y, v.1)) (ap (λ (y : (Text × Text) × Text). y.0) same))
+
+module _ (place : ℕ) (read body : Text) (prefix back : List Text) (inside : ℕ)
+    (list : List Text) (agrees : AgreesWithBody place read list)
+    (split : list ≡ prefix ++ body ∷ back) (offset_is : place ≡ following 16 prefix + 5 + inside)
+  where
+    -- the same part of both
+    same_part : (n m : ℕ) → n + m ≤ length read → inside + n + m ≤ length body
+        → take m (drop n read) ≡ take m (drop (inside + n) body)
+    same_part n m in_read in_body =
+        let long = length-take-le (n + m) read in_read in
+        let first : take (n + m) read ≡ take (n + m) (drop inside body) =
+        agrees (n + m) prefix body back inside split (omega (arith, offset_is))
+        (omega (arith, long, in_body))
+        ∙ ap (λ (k : ℕ). take k (drop inside body)) long in
+        sym (drop-take n m read) ∙ ap (drop n) first ∙ drop-take n m (drop inside body)
+        ∙ ap (take m) (drop-drop n inside body)
+
+    same_item : (x item : Text × Text) (b later : At) → entry_at (at read 0) ≡ Ok (x, b)
+        → entry_at (at body inside) ≡ Ok (item, later) → item ≡ x
+    unfolding entry_at
+    same_item x item b later one two =
+        let head = bind_ok (vector_at w16 (at read 0)) _ (x, b) one in
+        let tail = bind_ok (vector_at w16 head.0.1) _ (x, b) head.2 in
+        let x_is = ok_is Short ((head.0.0, tail.0.0), tail.0.1) (x, b) tail.2 in
+        let entry = vector_read read 0 head.0.0 head.0.1 head.1 in
+        let key = vector_read read (0 + 2 + length head.0.0) tail.0.0 tail.0.1
+        (ap (vector_at w16) (sym entry.next) ∙ tail.1) in
+        let head' = bind_ok (vector_at w16 (at body inside)) _ (item, later) two in
+        let tail' = bind_ok (vector_at w16 head'.0.1) _ (item, later) head'.2 in
+        let item_is = ok_is Short ((head'.0.0, tail'.0.0), tail'.0.1) (item, later) tail'.2 in
+        let entry' = vector_read body inside head'.0.0 head'.0.1 head'.1 in
+        let key' = vector_read body (inside + 2 + length head'.0.0) tail'.0.0 tail'.0.1
+        (ap (vector_at w16) (sym entry'.next) ∙ tail'.1) in
+        let size : length head.0.0 ≡ length head'.0.0 =
+        entry.counted ∙ ap (from_be_bytes w16)
+        (same_part 0 2 (omega (arith, entry.within)) (omega (arith, entry'.within))
+        ∙ ap (λ (n : ℕ). take 2 (drop n body)) (omega arith)) ∙ sym entry'.counted in
+        let entry_is : head'.0.0 ≡ head.0.0 =
+        entry'.part ∙ ap (λ (n : ℕ). take n (drop (inside + 2) body)) (sym size)
+        ∙ sym (same_part 2 (length head.0.0) (omega (arith, entry.within))
+        (omega (arith, entry'.within, size)))
+        ∙ sym entry.part in
+        let far : inside + (0 + 2 + length head.0.0) ≡ inside + 2 + length head'.0.0 =
+        omega (arith, size) in
+        let key_size : length tail.0.0 ≡ length tail'.0.0 =
+        key.counted ∙ ap (from_be_bytes w16)
+        (same_part (0 + 2 + length head.0.0) 2 (omega (arith, key.within))
+        (omega (arith, key'.within, size))
+        ∙ ap (λ (n : ℕ). take 2 (drop n body)) far) ∙ sym key'.counted in
+        let further : inside + (0 + 2 + length head.0.0 + 2) ≡ inside + 2 + length head'.0.0 + 2 =
+        omega (arith, size) in
+        let key_is : tail'.0.0 ≡ tail.0.0 =
+        key'.part
+        ∙ ap (λ (n : ℕ). take n (drop (inside + 2 + length head'.0.0 + 2) body)) (sym key_size)
+        ∙ ap (λ (n : ℕ). take (length tail.0.0) (drop n body)) (sym further)
+        ∙ sym (same_part (0 + 2 + length head.0.0 + 2) (length tail.0.0)
+        (omega (arith, key.within)) (omega (arith, key'.within, key_size, size)))
+        ∙ sym key.part in
+        sym (ap (λ (v : (Text × Text) × At). v.0) item_is)
+        ∙ ap (λ (t : Text). (t, tail'.0.0)) entry_is
+        ∙ ap (λ (t : Text). (head.0.0, t)) key_is
+        ∙ ap (λ (v : (Text × Text) × At). v.0) x_is
+
+pub item_back : (place : ℕ) (read : Text) (x y : Text × Text) (rest : Text)
+    (o : Option (List Text)) → IfSome o (AgreesWithBody place read)
+    → leading_item read ≡ Some (x, rest) → x ≡ y
+    → IfSome o (λ list. (item : Text × Text) → IsAtOffset list place item → item ≡ y)
+item_back place read x y rest None agrees is same = tt
+item_back place read x y rest (Some list) agrees is same = λ item there.
+    let found = was_read read x rest is in
+    same_item place read there.body there.prefix there.back there.inside list agrees there.split
+    there.offset_is x item found.0 there.later found.1 there.is ∙ same

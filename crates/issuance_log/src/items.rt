@@ -119,6 +119,16 @@ impl<H: TreeHash, T: Disk> Items<H, T> {
         }
     }
 
+    /// The offset of the item after an index, or the greatest number where there is none.
+    pub(crate) fn next_place(&self, index: u64) -> u64
+        requires { index < length (items_offsets self.now) }
+    {
+        match self.offsets.get(index as usize + 1) {
+            Some(place) => *place,
+            None => u64::MAX,
+        }
+    }
+
     /// The offset of an item.
     pub(crate) fn place(&self, index: u64) -> u64
         requires { index < length (items_offsets self.now) }

@@ -407,7 +407,7 @@ impl<H: TreeHash, D: Disk, T: Disk> Log<H, D, T> {
     }
 
     /// The entry at an index and its key, instead of what the two byte strings held. It is read
-    /// back from the journal.
+    /// back from the journal, by one call of its disk.
     ///
     /// Errors, in the order of the tests: `NoSuchEntry` where the index isn't below the size;
     /// `Memory` and `Failed`, whichever comes first. After a refusal both byte strings are empty.
@@ -436,7 +436,8 @@ impl<H: TreeHash, D: Disk, T: Disk> Log<H, D, T> {
             return Ok(());
         }
         let place = self.machine.items.place(index);
-        read_entry(self.alloc, &mut self.journal, place, entry, spki)
+        let next = self.machine.items.next_place(index);
+        read_entry(self.alloc, &mut self.journal, place, next, entry, spki)
     }
 
     /// The disk of the journal, and that of the tiles.

@@ -219,8 +219,8 @@ fn failures(
     Err(Fail::from("never written"))
 }
 
-// The one frame holds the second tile, so the first is read for the path; three calls read the
-// entry and its key from the journal.
+// The one frame holds the second tile, so the first is read for the path; one call reads the entry
+// and its key from the journal.
 #[test]
 fn a_disk_may_fail_a_certificate(rt: HostRuntime) -> Result<(), Fail> {
     let alloc = rt.alloc();
@@ -229,7 +229,7 @@ fn a_disk_may_fail_a_certificate(rt: HostRuntime) -> Result<(), Fail> {
     let Some(Ok(wanted)) = answer_over(alloc, both, (&[], &[]))? else {
         return Err("refused".into());
     };
-    assert!(rt; failures(alloc, both, WriteError::JournalFailed, wanted)? == 3);
+    assert!(rt; failures(alloc, both, WriteError::JournalFailed, wanted)? == 1);
     assert!(rt; failures(alloc, both, WriteError::TilesFailed, wanted)? == 1);
     Ok(())
 }
