@@ -18,7 +18,7 @@ use Rattle.mirror_core.specs.Places.{places_of_batches}
 use Rattle.mirror_core.specs.Records.{all_mirrored, mirrored_in}
 use Rattle.mirror_core.specs.Refusals.{difference_from, first_difference, is_same_item, pairs_of}
 use Rattle.mirror_core.specs.declared.kept.BatchPlace.{BatchPlace}
-use Rattle.mirror_core.proofs.Leading.{begins, leading_none, leading_on}
+use Rattle.issuance_log.proofs.Leading.{begins, leading_none, leading_on}
 use Rattle.mirror_core.proofs.ReadBodies.{batch_leading}
 
 -- ---- the items of a list, each with its key
@@ -224,7 +224,7 @@ more_left list rest from number total items x later is so_far =
 -- ---- the Batches, one by one
 
 -- the items of a record, where it is a Batch
-abbrev batch_with : Option (List (Text × Text)) → List (List (Text × Text))
+abbrev pub batch_with : Option (List (Text × Text)) → List (List (Text × Text))
 batch_with (Some items) = items ∷ []
 batch_with None = []
 

@@ -1,3 +1,4 @@
+pub mod After
 mod Answering
 mod Batching
 mod Changes
@@ -6,6 +7,7 @@ pub mod Encoded
 pub mod Keeping
 mod Leading
 mod Leaving
+mod Listed
 mod Longest
 mod Made
 mod Opening
@@ -19,5 +21,6 @@ mod Sound
 mod Taking
 mod Telling
 mod Tiling
+mod Unrefused
 mod Views
 mod Writing

@@ -11,7 +11,7 @@ use Rattle.tree_core.specs.Tree.{leaf_hash}
 use Rattle.tree_core.specs.declared.hashing.TreeHash.{Ghosts as Hashes}
 use Rattle.mirror_core.specs.Kept.{item_leaves, kept_count, kept_leaves, kept_places, kept_tiles}
 use Rattle.mirror_core.specs.declared.kept.KeptItems.{KeptItems}
-use Rattle.mirror_core.proofs.Leading.{begins, leading_none, leading_on}
+use Rattle.issuance_log.proofs.Leading.{begins, leading_none, leading_on}
 
 -- the leaves of these items after others
 abbrev pub with_leaves : HashFunction → List (Text × Text) → Option (List Hash)

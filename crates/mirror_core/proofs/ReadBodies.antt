@@ -18,7 +18,7 @@ use Rattle.tls_wire.specs.Encoding.{number}
 use Rattle.mirror_core.specs.Places.{IsBodyAt, IsItemIn}
 use Rattle.mirror_core.specs.Records.{mirror_batch_record, mirror_batch_tag, mirrored_in}
 use Rattle.mirror_core.proofs.Encoded.{batch_takes}
-use Rattle.mirror_core.proofs.Leading.{begins, leading_again, leading_none, leading_on}
+use Rattle.issuance_log.proofs.Leading.{begins, leading_again, leading_none, leading_on}
 
 -- ---- a body, by its length and its bytes
 

@@ -1,16 +1,15 @@
 -- The records of a mirror, each by its own rule; and the items that they determine.
 use Rattle.std.proofs.Common.{◌≡◌, inl, inr, ℕ, ◌+◌, ◌%◌, ◌^◌, ◌==◌, ◌&&◌, nat_le}
 use Rattle.std.proofs.Common.{nat_lt, not, Bool, true, false, List, [], ◌∷◌, ◌++◌, length, Option}
-use Rattle.std.proofs.Common.{Some, None, Ok, Err, option_map, refl, ap, sym, ◌∙◌}
+use Rattle.std.proofs.Common.{Some, None, Ok, option_map, refl, ap, sym, ◌∙◌}
 use Rattle.std.proofs.Common.{arith, if◌then◌else◌}
 use Rattle.std.specs.List.{AllByRecursion, list_all}
 use Rattle.std.proofs.lemmas.Bool.{and_parts, eqb-true, le-ltb, leb-true, ltb-true}
-use Rattle.std.proofs.lemmas.List.{append-nil, append_assoc}
 use Rattle.std.proofs.lemmas.Option.{same_Some}
 use Rattle.byte_formats.specs.Offsets.{IsBytes}
 use Rattle.byte_formats.specs.Readings.{some_or}
 use Rattle.byte_formats.specs.Types.{HashFunction, Text}
-use Rattle.byte_formats.proofs.Steps.{bind_ok, ok_is, some_or_ok}
+use Rattle.byte_formats.proofs.Steps.{bind_ok, some_or_ok}
 use Rattle.byte_formats.proofs.Values.{when_some}
 use Rattle.entry_list.specs.Items.{is_key_of}
 use Rattle.issuance_log.specs.Records.{tiled_in, tiles_tag}
@@ -26,9 +25,10 @@ use Rattle.mirror_core.specs.Records.{all_mirrored, mirror_log_in}
 use Rattle.mirror_core.specs.Records.{mirrored_by, mirrored_in}
 use Rattle.mirror_core.specs.Rules.{IsFirstOfMirror, IsMirrorItem}
 use Rattle.mirror_core.specs.Rules.{IsNextOfMirror}
+use Rattle.mirror_core.proofs.After.{following_more, no_mirror}
 use Rattle.mirror_core.proofs.Changes.{all_taken}
 use Rattle.mirror_core.proofs.Encoded.{batch_takes, mirror_again, mirror_no_batch, mirror_takes}
-use Rattle.mirror_core.proofs.Keeping.{next_more, no_items, rebuilt}
+use Rattle.mirror_core.proofs.Keeping.{no_items, rebuilt}
 use Rattle.mirror_core.proofs.Sound.{each_item}
 use Rattle.mirror_core.proofs.Views.{next_batched, next_tiled, says_items, says_tiles}
 
@@ -136,23 +136,6 @@ next_is h s body t bytes is = go (mirrored_in body) (tiled_in body) refl refl
 
 -- ---- the items of all records
 
-taken_items : (h : HashFunction) (k : ℕ) (s t : MirrorState) (bodies : List Text)
-    → taken_from (mirror_fold h) k s bodies ≡ Ok t → t.items ≡ s.items ++ all_mirrored bodies
-unfolding taken_from
-taken_items h k s t [] is =
-    sym (ap (λ (u : MirrorState). u.items) (ok_is ℕ s t is)) ∙ sym (append-nil s.items)
-taken_items h k s t (body ∷ bodies) is =
-    let step = bind_ok (some_or k (next_mirror h s body))
-    (λ (u : MirrorState). taken_from (mirror_fold h) (k + 1) u bodies) t is in
-    let one = next_more h s step.0 body
-    (some_or_ok k (next_mirror h s body) step.0 step.1) in
-    taken_items h (k + 1) step.0 t bodies step.2
-    ∙ ap (λ (l : List (Text × Text)). l ++ all_mirrored bodies) one.items
-    ∙ append_assoc s.items (mirrored_by body) (all_mirrored bodies)
-
-no_mirror : (k : ℕ) (t : MirrorState) → Err k ≡ Ok t → ⊥
-no_mirror k t is = cc
-
 -- the first record has none
 begun_none : (body : Text) (s : MirrorState) (o : Option Text) → mirror_log_in body ≡ o
     → option_map new_mirror o ≡ Some s → (s.items ≡ []) × (mirrored_by body ≡ [])
@@ -172,7 +155,7 @@ all_items h (first ∷ bodies) t is =
     let none = begun_none first step.0 (mirror_log_in first) refl
     (some_or_ok 0 (begun_mirror first) step.0 step.1) in
     ap (λ (l : List (Text × Text)). l ++ all_mirrored bodies) (none.1 ∙ sym none.0)
-    ∙ sym (taken_items h 1 step.0 t bodies step.2)
+    ∙ sym (following_more h 1 step.0 t bodies step.2).items
 
 pub shown_so : (h : HashFunction) (list : List Text) (s : MirrorState) → mirror_of h list ≡ Ok s
     → mirror_with (view_in_mirror s) list ≡ s

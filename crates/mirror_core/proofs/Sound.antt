@@ -1,7 +1,7 @@
 -- A mirror that records make is sound.
 use Rattle.std.proofs.Common.{◌≡◌, ℕ, ◌+◌, ◌%◌, ◌^◌, ◌==◌, ◌&&◌, nat_le, nat_lt, not, Bool}
 use Rattle.std.proofs.Common.{true, false, List, [], ◌∷◌, ◌++◌, length, Option, Some, None}
-use Rattle.std.proofs.Common.{Ok, Err, option_map, refl, subst, arith}
+use Rattle.std.proofs.Common.{Ok, option_map, refl, subst, arith}
 use Rattle.std.specs.List.{AllByRecursion, list_all}
 use Rattle.std.proofs.lemmas.Bool.{and_parts, eqb-true, leb-true, ltb-false, ltb-true}
 use Rattle.std.proofs.lemmas.List.{length-append}
@@ -20,6 +20,7 @@ use Rattle.mirror_core.specs.Folds.{mirrors_items, mirrors_tiles, new_mirror, ne
 use Rattle.mirror_core.specs.Folds.{no_mirror_step, takes_mirror_step, view_in_mirror}
 use Rattle.mirror_core.specs.Records.{mirror_log_in}
 use Rattle.mirror_core.specs.Rules.{IsMirrorItem, IsSoundMirror}
+use Rattle.mirror_core.proofs.After.{no_mirror}
 
 item_of_test : (h : HashFunction) (x : Text × Text) → is_mirrorable h x ≡ true
     → IsMirrorItem h x
@@ -107,9 +108,6 @@ sound_begun : (h : HashFunction) (s : MirrorState) (o : Option Text)
 sound_begun h s None is = let wrong : None ≡ Some s = is in absurd cc
 sound_begun h s (Some log) is =
     subst (IsSoundMirror h) (same_Some (new_mirror log) s is) (sound_new h log)
-
-no_mirror : (k : ℕ) (t : MirrorState) → Err k ≡ Ok t → ⊥
-no_mirror k t is = cc
 
 pub sound_of : (h : HashFunction) (list : List Text) (t : MirrorState) → mirror_of h list ≡ Ok t
     → IsSoundMirror h t

@@ -7,7 +7,7 @@ use Rattle.byte_formats.specs.Offsets.{IsBytes}
 use Rattle.byte_formats.specs.Types.{HashFunction, Text}
 use Rattle.issuance_log.specs.Batches.{leading_item, leading_items}
 use Rattle.mirror_core.specs.Folds.{MirrorView, is_mirrorable, takes_mirrored}
-use Rattle.mirror_core.proofs.Leading.{begins, leading_none, leading_on}
+use Rattle.issuance_log.proofs.Leading.{begins, leading_none, leading_on}
 
 -- Whether all are of a mirror is whether those in the bytes that are left are.
 pub record AreTested (h : HashFunction) (items rest : Text) : Type 0 where

@@ -1,16 +1,12 @@
 -- What storing tiles and appending their size leaves.
-use Rattle.std.proofs.Common.{◌≡◌, ℕ, ◌^◌, ◌<◌, ◌≤◌, List, [], ◌∷◌, ◌++◌, ◌∙◌, arith, false, max}
-use Rattle.std.proofs.Common.{length, Option, Some, None, IfSome, option_map, refl, ap, subst, sym}
+use Rattle.std.proofs.Common.{◌≡◌, ℕ, ◌≤◌, List, [], ◌∷◌, ◌++◌, arith, false}
+use Rattle.std.proofs.Common.{Option, Some, None, IfSome, option_map, subst, sym}
 use Rattle.std.proofs.Common.{Result, Ok, Err, OnOk, OnErr}
-use Rattle.std.proofs.lemmas.List.{length-append}
 use Rattle.byte_formats.specs.Types.{Text, HashFunction}
 use Rattle.byte_formats.proofs.Values.{each_some}
 use Rattle.disk_core.specs.Times.{LeavesOnly}
 use Rattle.disk_core.specs.declared.disk.Disk.{Ghosts}
-use Rattle.disk_core.proofs.Times.{started, weaker}
-use Rattle.journal_core.specs.Format.{Represents, records_of}
-use Rattle.journal_core.specs.Durable.{IsDurable}
-use Rattle.journal_core.proofs.Records.{records_of-stands}
+use Rattle.journal_core.specs.Format.{Represents}
 use Rattle.journal_core.proofs.Modelled.{if_some}
 use Rattle.state_journal.proofs.Kept.{of_sound}
 use Rattle.mtc_io.specs.declared.fault.Failed.{Failed as DiskFailed}
@@ -20,9 +16,8 @@ use Rattle.tile_store.specs.Layout.{tiles_end}
 use Rattle.tile_store.specs.Store.{tiles_stored}
 use Rattle.tile_store.specs.Writing.{IsCrashStateAfter}
 use Rattle.tile_store.specs.declared.store.Tiles.{Tiles}
-use Rattle.tile_store.proofs.Prefixes.{prefix-less}
-use Rattle.tile_store.proofs.Kept.{tiles-kept}
 use Rattle.tree_core.specs.declared.hashing.TreeHash.{Ghosts as Hashes}
+use Rattle.issuance_log.proofs.Tiling.{no_record, still_held, stored_held}
 use Rattle.mirror_core.proofs.Changes.{size_fits}
 use Rattle.mirror_core.proofs.Telling.{leaves_by}
 use Rattle.mirror_core.specs.Counted.{mirror_keeps}
@@ -35,26 +30,6 @@ use Rattle.mirror_core.specs.Words.{mirror_tiles_disk, mirror_view}
 use Rattle.mirror_core.specs.declared.kept.BatchPlace.{BatchPlace}
 use Rattle.mirror_core.specs.declared.mirror.Mirror.{Mirror}
 
--- tiles of fewer leaves end no later
-ends_before : (size stored : ℕ) → size ≤ stored → tiles_end size ≤ tiles_end stored
-ends_before size stored within = omega arith
-
--- At any time of a store the tiles of an earlier size stay.
-module _ {T : Type 0} (k : Ghosts T) (old new : T) (h : HashFunction) (leaves : List (List ℕ))
-    (size : ℕ) (held : (c : Text) → k.may_leave old c → HoldsTiles h leaves size c) where
-  pub still_held : ((c : Text) → k.left_since old (k.clock_at old) c → k.may_leave old c)
-      → LeavesOnly k old old (HoldsTiles h leaves size)
-  still_held only_now = started k old (HoldsTiles h leaves size) only_now held
-
-  pub stored_held : (stored : ℕ) → size < 2 ^ 32 → size ≤ stored
-      → LeavesOnly k old new (IsCrashStateAfter k old (tiles_end stored))
-      → LeavesOnly k old new (HoldsTiles h leaves size)
-  stored_held stored few within any_time =
-      weaker k old new (IsCrashStateAfter k old (tiles_end stored)) (HoldsTiles h leaves size)
-      (λ c is. tiles-kept h leaves size is.before c few
-      (prefix-less (tiles_end size) (tiles_end stored) is.before c (ends_before size stored within)
-      is.keeps) (held is.before is.left)) any_time
-
 -- the hashes of the entries are the nodes that are retained
 pub leaves_are : (h : HashFunction) (v : MirrorView) (places : List BatchPlace)
     (contents : Option Text)
@@ -65,41 +40,6 @@ pub leaves_are : (h : HashFunction) (v : MirrorView) (places : List BatchPlace)
 leaves_are h v places None nodes records P kept is = tt
 leaves_are h v places (Some t) nodes None P kept is = tt
 leaves_are h v places (Some t) nodes (Some list) P kept is = subst P kept.hashed is
-
--- a journal that is all on the disk has no record more
-longer_other : (list : List Text) (body : Text) → list ≡ list ++ body ∷ [] → {X : Type 0} → X
-longer_other list body is =
-    let size = length-append list (body ∷ []) in
-    let same = ap (λ (l : List Text). length l) is in
-    absurd (omega arith)
-
-pub no_record : {D : Type 0} (g : Ghosts D) (disk : D) (end : ℕ) (body : Text)
-    (is_durable : (b : Text) → g.contents disk ≡ Some b → IsDurable b (g.may_leave disk) end)
-    (only_now : (c : Text) → g.left_since disk (g.clock_at disk) c → g.may_leave disk c)
-    (P : Text → Type 0)
-    → IfSome (option_map records_of (g.contents disk)) (λ list. (c : Text)
-    → g.left_since disk (g.clock_at disk) c → Represents c (list ++ body ∷ [])
-    → P c)
-no_record g disk end body is_durable only_now P = at (g.contents disk) is_durable
-  where
-    at : (contents : Option Text)
-        → ((b : Text) → contents ≡ Some b → IsDurable b (g.may_leave disk) end)
-        → IfSome (option_map records_of contents) (λ list. (c : Text)
-        → g.left_since disk (g.clock_at disk) c → Represents c (list ++ body ∷ []) → P c)
-    at None is = tt
-    at (Some b) is = λ c left stands.
-        let here = is b refl in
-        let same : c ≡ b = here.only c (only_now c left) in
-        longer_other (records_of b) body
-        (ap records_of (sym same) ∙ records_of-stands c (records_of b ++ body ∷ []) stands)
-
--- how far the known length comes, by the size that the tiles are stored to
-pub reach_to : {T : Type 0} (k : Ghosts T) (disk later : T) (old size to : ℕ) → later ≡ disk
-    → size ≡ to → k.known disk ≤ max (tiles_end size) old
-    → k.known later ≤ max (tiles_end to) old
-reach_to k disk later old size to same is few =
-    subst (λ d. k.known d ≤ max (tiles_end to) old) (sym same)
-    (subst (λ (n : ℕ). k.known disk ≤ max (tiles_end n) old) is few)
 
 -- ---- of a mirror
 

@@ -76,7 +76,7 @@ each_shows : (h : HashFunction) (k : ℕ) (bodies : List Text) (o : Option Mirro
 each_shows h k bodies None rest = refl
 each_shows h k bodies (Some s) rest = rest s
 
-taken_shows : (h : HashFunction) (k : ℕ) (s : MirrorState) (bodies : List Text)
+pub taken_shows : (h : HashFunction) (k : ℕ) (s : MirrorState) (bodies : List Text)
     → taken_from (view_fold h) k (view_in_mirror s) bodies
     ≡ shows (taken_from (mirror_fold h) k s bodies)
 unfolding taken_from

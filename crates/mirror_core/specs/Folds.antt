@@ -2,13 +2,13 @@
 -- changes it by what it says.
 use Rattle.std.specs.Prelude.{ℕ, ◌+◌, ◌%◌, ◌^◌, ◌==◌, ◌&&◌, nat_lt, nat_le, not, List, [], ◌++◌}
 use Rattle.std.specs.Prelude.{length, map, Option, Some, None, option_map, Result, Bool, false}
-use Rattle.std.specs.Prelude.{if◌then◌else◌}
+use Rattle.std.specs.Prelude.{if◌then◌else◌, is_ok}
 use Rattle.std.specs.List.{list_all}
 use Rattle.byte_formats.specs.Types.{HashFunction, Text}
 use Rattle.entry_list.specs.Items.{is_key_of}
 use Rattle.issuance_log.specs.Batches.{is_large}
 use Rattle.issuance_log.specs.Records.{tiled_in}
-use Rattle.journal_core.specs.Folds.{Fold, state_after}
+use Rattle.journal_core.specs.Folds.{Fold, state_after, taken_from}
 use Rattle.mirror_core.specs.Records.{all_mirrored, mirror_log_in, mirrored_in}
 use Rattle.mirror_core.specs.declared.error.MirrorOpenError.{MirrorOpenError}
 use Rattle.mirror_core.specs.declared.error.MirrorOpenError.TheVariants.{BadRecord, Open}
@@ -140,3 +140,12 @@ mirror_fold h = record {
 -- rules. Without a record the first one is missing.
 abbrev pub mirror_of : HashFunction → List Text → Result MirrorState ℕ
 mirror_of h list = state_after (mirror_fold h) list
+
+-- The mirror that these records make after a first one with this id, or the number of the first
+-- record that breaks the rules.
+abbrev pub mirror_after : HashFunction → Text → List Text → Result MirrorState ℕ
+mirror_after h log bodies = taken_from (mirror_fold h) 1 (new_mirror log) bodies
+
+-- They may follow a first record with this id.
+abbrev pub may_follow_mirror : HashFunction → Text → List Text → Bool
+may_follow_mirror h log bodies = is_ok (mirror_after h log bodies)

@@ -13,3 +13,4 @@ pub mod Results
 pub mod Rules
 pub mod Staying
 pub mod Words
+pub mod Written

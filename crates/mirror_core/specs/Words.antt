@@ -15,7 +15,8 @@ use Rattle.tile_store.specs.declared.store.Tiles.{Tiles}
 use Rattle.tree_core.specs.Tree.{leaf_hash}
 use Rattle.tree_core.specs.declared.hashing.TreeHash.{Ghosts as Hashes}
 use Rattle.mirror_core.specs.Folds.{MirrorState, MirrorView, entries_in_mirror}
-use Rattle.mirror_core.specs.Folds.{mirror_with, next_mirror, next_mirror_view, view_in_mirror}
+use Rattle.mirror_core.specs.Folds.{mirror_of, mirror_with, next_mirror, next_mirror_view}
+use Rattle.mirror_core.specs.Folds.{view_in_mirror}
 use Rattle.mirror_core.specs.Kept.{kept_tiles}
 use Rattle.mirror_core.specs.declared.error.MirrorError.{MirrorError}
 use Rattle.mirror_core.specs.declared.error.MirrorError.TheVariants.{Append}
@@ -149,6 +150,12 @@ module _ {H D T : Type 0} {hashes : Hashes H} {g : Ghosts D} {k : Ghosts T} wher
     pub read : Mirror H D T hashes g k
     pub reads : MirrorAsksJournal old read
     pub appends : MirrorAppends body seen next read new result
+
+  -- This record, after those of the journal, makes this of the mirror, if the contents of the
+  -- journal are known.
+  abbrev pub MirrorWouldTake : Text → (MirrorState → MirrorState) → Mirror H D T hashes g k → Type 0
+  MirrorWouldTake body next mirror = IfSome (mirror_records mirror) (λ list.
+      mirror_of hashes.hash (list ++ body ∷ []) ≡ Ok (next (mirror_with (mirror_view mirror) list)))
 
   -- At any time a crash leaves the tiles of this size on their disk, if it would have left them
   -- before.

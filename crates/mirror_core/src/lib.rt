@@ -6,7 +6,8 @@
 //! [`Mirror::open`] reads and tests the records of a journal one by one. [`Mirror::take`] is given
 //! a list of items that begins with those of the mirror, and appends as many of the new ones as one
 //! record holds; a list that doesn't begin so is refused with the number of the first item that
-//! differs. [`Mirror::item`] reads an item back.
+//! differs. [`Mirror::item`] reads an item back, and [`Mirror::write_items`] writes the first ones
+//! as a file of entries while it reads them.
 //!
 //! What the records of a journal make of a mirror is one function of them. A mirror follows it:
 //! unless an append has failed, its items are what the records on its disk make.
@@ -24,8 +25,10 @@ mod bodies;
 mod comparing;
 mod creation;
 mod error;
+mod following;
 mod kept;
 pub mod laws;
+mod listing;
 mod machine;
 mod mirror;
 mod nodes;
@@ -35,4 +38,5 @@ mod record;
 
 pub use creation::{create, pack};
 pub use error::{MirrorError, MirrorOpenError, MirrorRefused};
+pub use following::may_follow;
 pub use mirror::Mirror;

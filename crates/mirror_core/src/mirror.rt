@@ -4,6 +4,7 @@ ghost use Rattle.std.specs.Prelude.{◌≡◌, ◌↔◌, ℕ, ◌+◌, ◌*◌,
 ghost use Rattle.std.specs.Prelude.{Some, None, Ok, Err, IfSome, IfOk, IfErr, IsErrOf, IsTrue};
 ghost use Rattle.std.specs.Prelude.{OnErr, OnOk, is_some, false};
 ghost use Rattle.std.proofs.Props.{props};
+ghost use Rattle.entry_list.specs.Items.{AreItems, ItemLists};
 ghost use Rattle.frame_pool.specs.Frames.{HoldsKey};
 ghost use Rattle.frame_pool.specs.declared.key.TileKey.{TileKey as Key};
 ghost use Rattle.issuance_log.specs.Records.{IsShort, tiles_record};
@@ -29,10 +30,14 @@ ghost use Rattle.mirror_core.specs.Refusals.{TakeKeepsTo, first_difference, full
 ghost use Rattle.mirror_core.specs.Refusals.{mirror_item_at, mirror_tile_refusal, next_batch};
 ghost use Rattle.mirror_core.specs.Refusals.{pairs_of, take_refusal};
 ghost use Rattle.mirror_core.specs.Rules.{IsSoundMirror};
+ghost use Rattle.mirror_core.specs.Written.{ItemsWentOut, KeepsToMirrorSize, SinkCounts};
+ghost use Rattle.mirror_core.specs.Written.{mirrored_file};
+ghost use Rattle.journal_core.specs.Copies.{AppendsSome};
 
 use crate::bodies::read_item;
 use crate::comparing::find_difference;
 use crate::error::{MirrorError, MirrorOpenError, MirrorRefused, open_refusal};
+use crate::listing::write_first;
 use crate::machine::{MirrorMachine, MirrorRest, MirrorSeed};
 use crate::numbers::MOST;
 use crate::preparing::{prepare_batch, prepare_tiles};
@@ -40,7 +45,7 @@ use disk_core::Disk;
 use entry_list::Items;
 use frame_pool::Pool;
 use journal_core::Journal;
-use mtc_io::Bytes;
+use mtc_io::{Bytes, Failed, Sink};
 use state_journal::{StateRefused, append_to, open_state};
 use std::alloc::Global;
 use tls_wire::AnchorId;
@@ -108,7 +113,7 @@ impl<H: TreeHash, D: Disk, T: Disk> Mirror<H, D, T> {
     ghost use Rattle.mirror_core.specs.Opened.{MirrorIsNotOpened, MirrorIsOpened};
     ghost use Rattle.mirror_core.specs.Words.{IsMirroredAs, KeepsMirrorTiles, MirrorAppends};
     ghost use Rattle.mirror_core.specs.Words.{MirrorAsksJournal, MirrorReadsAndAppends};
-    ghost use Rattle.mirror_core.specs.Words.{MirrorStays, MirrorTilesStandAfter};
+    ghost use Rattle.mirror_core.specs.Words.{MirrorStays, MirrorTilesStandAfter, MirrorWouldTake};
     ghost use Rattle.mirror_core.specs.Words.{mirror_broken, mirror_disk, mirror_end};
     ghost use Rattle.mirror_core.specs.Words.{mirror_tiles_disk, mirror_view, modelled_mirror};
 
@@ -337,6 +342,23 @@ impl<H: TreeHash, D: Disk, T: Disk> Mirror<H, D, T> {
         let _ = self.machine.numbers.size();
     }
 
+    /// A record that the call of its kind does not refuse follows the rules: after the records of
+    /// the journal, where its contents are known, it makes the mirror that the call says. The
+    /// clauses are the law, and the call does nothing.
+    pub fn law_unrefused_records_are_taken(&self)
+        ensures taken { (items : ItemLists) → AreItems H.hash items
+            → take_refusal None (mirror_view self.now).size (mirror_broken self.now)
+            (mirror_end self.now) (pairs_of items) ≡ None → MirrorWouldTake
+            (mirror_batch_record (next_batch (mirror_view self.now).size (pairs_of items)))
+            (with_mirrored (next_batch (mirror_view self.now).size (pairs_of items))) self.now }
+        ensures tiled { mirror_tile_refusal (mirror_view self.now) (mirror_broken self.now)
+            (mirror_end self.now) ≡ None → MirrorWouldTake
+            (tiles_record (full_mirror_size (mirror_view self.now)))
+            (with_mirror_tiles (full_mirror_size (mirror_view self.now))) self.now }
+    {
+        let _ = self.machine.numbers.size();
+    }
+
     /// The entry at an index and the key beside it, instead of what the two byte strings held. It
     /// is read back from the journal, with the whole Batch in which it stands.
     ///
@@ -378,6 +400,41 @@ impl<H: TreeHash, D: Disk, T: Disk> Mirror<H, D, T> {
             entry,
             spki,
         )
+    }
+
+    /// Writes so many of the first items as a file of entries: each entry and the key beside it,
+    /// both after a length of two bytes. It writes while it reads: each Batch is read once, and the
+    /// body of one is in memory. Answers whether all of the file went out, or the sink failed. If
+    /// an append has failed, its items are not written, even if they are on the disk.
+    ///
+    /// Errors: `Beyond` with the size where there are fewer items, and then nothing is written;
+    /// `Memory` and `Failed` of the journal's disk, whichever comes first. The sink has then taken
+    /// a prefix of the file that isn't all of it, and where it failed itself any prefix. The call
+    /// only reads the journal's disk, it leaves that of the tiles alone, and the mirror shows what
+    /// it showed before. Over a disk whose bytes the model doesn't know nothing is said of the
+    /// bytes that went out.
+    pub fn write_items<O: Sink>(
+        &mut self,
+        size: u64,
+        out: &mut O,
+    ) -> Result<Result<(), Failed>, MirrorError>
+        ensures written { IfSome (modelled_mirror self.old) (λ s. ItemsWentOut
+            (O.taken out.old) (O.taken out.new) (mirrored_file size s) result) }
+        ensures grows { AppendsSome (O.taken out.old) (O.taken out.new) }
+        ensures size { KeepsToMirrorSize (mirror_view self.old).size size result }
+        ensures untouched { (mirror_view self.old).size < size → out.new ≡ out.old }
+        ensures stays { MirrorStays self.old self.new }
+        ensures tiles { mirror_tiles_disk self.new ≡ mirror_tiles_disk self.old }
+        ensures cause { MirrorCounts (D.faults (mirror_disk self.old))
+            (D.faults (mirror_disk self.new)) result }
+        ensures took { SinkCounts (O.faults out.old) (O.faults out.new) result }
+    {
+        let have = self.size();
+        if have < size {
+            return Err(MirrorError::Beyond(have));
+        }
+        let places = self.machine.kept.places.as_slice();
+        write_first(self.alloc, &mut self.journal, places, size, out)
     }
 
     /// The disk of the journal, and that of the tiles.

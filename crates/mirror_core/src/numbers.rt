@@ -3,8 +3,8 @@
 ghost use Rattle.std.specs.Prelude.{◌≡◌, ◌≢◌, ◌+◌, ◌^◌, ◌<◌, length, None, Err, IfOk, true};
 ghost use Rattle.issuance_log.specs.Batches.{leading_items};
 ghost use Rattle.mirror_core.specs.Folds.{begun_mirror_view, is_mirrorable};
-ghost use Rattle.mirror_core.specs.Folds.{more_mirrored, next_mirror_view};
-ghost use Rattle.mirror_core.specs.Folds.{takes_mirrored};
+ghost use Rattle.mirror_core.specs.Folds.{more_mirrored, new_mirror, next_mirror_view};
+ghost use Rattle.mirror_core.specs.Folds.{takes_mirrored, view_in_mirror};
 ghost use Rattle.mirror_core.specs.Kept.{HasMirrorNumbers};
 ghost use Rattle.mirror_core.specs.Records.{mirrored_in};
 ghost use Rattle.mirror_core.specs.Refusals.{full_mirror_size};
@@ -55,6 +55,17 @@ fn is_mirrorable<H: TreeHash>(entry: &[u8], key: &[u8]) -> bool
 }
 
 impl Numbers {
+    /// Those of a new mirror.
+    pub(crate) fn new(log: AnchorId) -> Numbers
+        ensures { result ≡ view_in_mirror (new_mirror log) }
+    {
+        Numbers {
+            log,
+            size: 0,
+            tiled: 0,
+        }
+    }
+
     /// Those of the mirror that the first record begins.
     #[tactic(auto, unfolding(crate::specs::Folds::begun_mirror))]
     pub(crate) fn begin(alloc: Global, body: &[u8]) -> Result<Numbers, RecordError>
@@ -63,11 +74,7 @@ impl Numbers {
         ensures untiled { IfOk result (λ n. n.tiled ≡ 0) }
     {
         let log = read_mirror(alloc, body)?;
-        Ok(Numbers {
-            log,
-            size: 0,
-            tiled: 0,
-        })
+        Ok(Numbers::new(log))
     }
 
     /// Whether the mirror takes the items that begin these bytes, which are so many.

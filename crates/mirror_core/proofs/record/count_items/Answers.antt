@@ -1,5 +1,5 @@
 use Rattle.std.proofs.Common.{◌∙◌, true, false, arith, refl, sym}
-use Rattle.mirror_core.proofs.Leading.{counted_end, counted_on, filled_end}
+use Rattle.issuance_log.proofs.Leading.{counted_end, counted_on, filled_end}
 use Rattle.mirror_core.proofs.record.count_items.Goals as goal
 
 pub items-init : goal.items-init

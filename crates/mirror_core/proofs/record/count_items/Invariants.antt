@@ -1,5 +1,5 @@
 use Rattle.std.proofs.Common.{length}
-use Rattle.mirror_core.proofs.Leading.{IsCounted}
+use Rattle.issuance_log.proofs.Leading.{IsCounted}
 use Rattle.mirror_core.proofs.record.count_items.Given as goal
 
 -- the items before what is left are counted

@@ -1,6 +1,7 @@
 use Rattle.std.proofs.Common.{◌∙◌, rules, sym}
 use Rattle.issuance_log.specs.Records.{batch_at}
-use Rattle.mirror_core.proofs.Leading.{batch_found, items_bytes, leading_short, none_counted}
+use Rattle.issuance_log.proofs.Leading.{leading_short}
+use Rattle.mirror_core.proofs.Leading.{batch_found, items_bytes, none_counted}
 use Rattle.mirror_core.proofs.Leading.{not_counted, not_filled}
 use Rattle.mirror_core.specs.Records.{mirrored_in}
 use Rattle.mirror_core.proofs.record.read_batch.Goals.{in_default-via-in-Some+then-there-count+else-count-ne0}

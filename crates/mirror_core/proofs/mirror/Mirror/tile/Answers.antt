@@ -12,7 +12,8 @@ use Rattle.mirror_core.proofs.Changes.{tiles_record_of, tiles_taken_as}
 use Rattle.mirror_core.proofs.Leaving.{appends_from, appends_not}
 use Rattle.mirror_core.proofs.Telling.{some_modelled}
 use Rattle.mirror_core.proofs.Tiling.{after_none, after_stored, keeps_still}
-use Rattle.mirror_core.proofs.Tiling.{keeps_stored, reach_to, stored_still}
+use Rattle.issuance_log.proofs.Tiling.{reach_to}
+use Rattle.mirror_core.proofs.Tiling.{keeps_stored, stored_still}
 use Rattle.mirror_core.specs.Durable.{IsDurableMirror}
 use Rattle.mirror_core.specs.Folds.{mirror_tiled_to, with_mirror_tiles}
 use Rattle.mirror_core.specs.Kept.{kept_places, kept_tiles}
