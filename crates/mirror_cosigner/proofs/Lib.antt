@@ -1,0 +1,14 @@
+pub mod Hashed
+pub mod Tested
+pub mod Made
+pub mod Proved
+pub mod Refusing
+pub mod Advanced
+pub mod Cosigned
+pub mod Shown
+pub mod Agreeing
+pub mod Sized
+pub mod Growing
+pub mod Keeping
+pub mod Leaving
+pub mod Audited
