@@ -19,7 +19,6 @@ pub mod OpenLogs
 pub mod NotOpened
 pub mod Certified
 pub mod CertifiedLists
-pub mod OnlyRead
 pub mod Requested
 pub mod Rebuilding
 pub mod Stopping

@@ -47,21 +47,32 @@ use Rattle.mtc_command.proofs.Made.{OnlyNow, ReadsCrashState}
 use Rattle.mtc_command.proofs.Stored.{read_both, stored_tiled}
 use Rattle.mtc_command.proofs.Tiled.{read_tiled, tiled_early, tiled_on}
 use Rattle.mtc_command.proofs.Works.{each_some}
-use Rattle.mtc_authority.specs.NoJournal.{SparesTiles}
-use Rattle.mtc_authority.specs.OpenLogs.{DevicesWereClosed, DevicesWereOpened, RefusesNoLog}
-use Rattle.mtc_authority.specs.OpenLogs.{outcome_over}
+use Rattle.mtc_tiled.specs.Headers.{SparesTiles}
+use Rattle.mtc_tiled.specs.Openings.{DevicesWereClosed, DevicesWereNotOpened, DevicesWereOpened}
+use Rattle.mtc_tiled.specs.Openings.{outcome_over}
+use Rattle.mtc_tiled.proofs.NotOpened.{only_read_valid, party_not_opened}
+use Rattle.mtc_tiled.proofs.Refused.{tiles_say}
+use Rattle.mtc_authority.specs.OpenLogs.{LogWasNotOpened, RefusesNoLog, log_party}
 use Rattle.mtc_authority.specs.StoredTiles.{HasTilesOf, MakesTilesWhole, after_tiles}
 use Rattle.mtc_authority.specs.TileOutcome.{rebuilt_bytes_say, rebuilt_reply, rebuilt_says}
 use Rattle.mtc_authority.specs.TileOutcome.{tiled_line, tiles_refused}
 use Rattle.mtc_authority.specs.Works.{IsLog, rebuilt_ending, log_open_ending}
 use Rattle.mtc_authority.proofs.Both.{CountsNow}
-use Rattle.mtc_authority.proofs.NotOpened.{only_read_valid}
-use Rattle.mtc_authority.proofs.Opened.{refused_says, tiles_say}
+use Rattle.mtc_authority.proofs.Opened.{refused_says}
 
 pub rebuilt_refuses : (h : HashFunction) (name : Text)
     → RefusesNoLog h name (rebuilt_bytes_say h name)
 rebuilt_refuses h name bytes held why is =
     ap (λ r. with_form log_open_text name r rebuilt_says) is
+
+-- the devices weren't opened
+pub rebuilt_not_opened : (h : HashFunction) {R S D : Type 0} (rooms : Rooms R S D) (g : Ghosts D)
+    (name : Text) (old new : R) (ending : Ending) → OnlyNow g
+    → DevicesWereNotOpened rooms g name old new ending
+    → LogWasNotOpened rooms g name h (rebuilt_bytes_say h name) old new ending
+rebuilt_not_opened h rooms g name old new ending only_now is =
+    party_not_opened (log_party h) rooms g name (rebuilt_bytes_say h name) old
+    (rebuilt_refuses h name) only_now new ending is
 
 -- ---- the log that was found
 
@@ -169,8 +180,8 @@ module _ (h : HashFunction) (name : Text) {D : Type 0} (g : Ghosts D)
       → Worked (rebuilt_ending name answer)
   by_answer crash_state only_now (Ok size) left = done_by size crash_state only_now left
   by_answer crash_state only_now (Err (NoTiles tile_error.Failed)) left =
-      tiles_say h name says (rebuilt_refuses h name) g first disk disk' tiles tiles' read_first fine
-      read left.failed
+      tiles_say (log_party h) name says (rebuilt_refuses h name) g first disk disk' tiles tiles'
+      read_first fine read left.failed
   by_answer crash_state only_now (Err (NoTiles (tile_error.BadTile level place))) left =
       absurd left
   by_answer crash_state only_now (Err (BadRecord number)) left =

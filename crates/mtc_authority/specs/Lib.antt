@@ -12,5 +12,4 @@ pub mod CertCommand
 pub mod ListCommands
 pub mod ListOutcomes
 pub mod IssueCommand
-pub mod NoJournal
 pub mod OpenLogs

@@ -1,6 +1,6 @@
 -- The outcomes of `issue-list J REQUESTS`, `certs` and `light-certs`.
-use Rattle.std.specs.Prelude.{ℕ, zero, suc, ◌+◌, ◌-◌, ◌++◌, false, List, [], ◌∷◌, codes, flat_map}
-use Rattle.std.specs.Prelude.{length, map, Option, Some, None}
+use Rattle.std.specs.Prelude.{ℕ, ◌-◌, false, List, flat_map}
+use Rattle.std.specs.Prelude.{length, Option, Some, None}
 use Rattle.std.specs.List.{range_with_len}
 use Rattle.byte_formats.specs.Types.{HashFunction, Text}
 use Rattle.journal_core.specs.Format.{end_offset}

@@ -1,7 +1,6 @@
 -- The outcomes of `tile J` and of `tile-anew J`.
-use Rattle.std.specs.Prelude.{ℕ, ◌++◌, ◌==◌, false, List, codes, Option, Some, None}
+use Rattle.std.specs.Prelude.{ℕ, ◌==◌, false, List, Option, Some, None}
 use Rattle.std.specs.Prelude.{if◌then◌else◌}
-use Rattle.std.specs.Fmt.{decimal}
 use Rattle.byte_formats.specs.Types.{HashFunction, Text}
 use Rattle.journal_core.specs.Format.{end_offset}
 use Rattle.journal_core.specs.declared.error.AppendError.TheVariants as append_error
@@ -18,11 +17,8 @@ use Rattle.mtc_command.specs.Answers.{said, tiles_name}
 use Rattle.mtc_command.specs.Steps.{Files, Outcome, answers_on, appends, held_in, with_file}
 use Rattle.mtc_command.specs.Steps.{with_form}
 use Rattle.issuance_log.specs.Reasons.{log_fault_text, log_open_text}
+pub use Rattle.mtc_tiled.specs.BadTiles.{tiled_line}
 use Rattle.mtc_authority.specs.LogOutcomes.{not_allowed}
-
--- The line of tiles that were stored, up to this size.
-abbrev pub tiled_line : ℕ → Text
-tiled_line size = codes "tiled " ++ (decimal size ++ codes "\n")
 
 -- Why a log stores no tiles.
 abbrev pub tiles_refused : LogError → Reply

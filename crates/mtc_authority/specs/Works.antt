@@ -1,11 +1,10 @@
 -- What files are opened as a log with its tiles, and what a command has to reply over it.
-use Rattle.std.specs.Prelude.{◌≡◌, ◌≢◌, ℕ, Bool, true, false, List, Option, None, Some, IfSome}
+use Rattle.std.specs.Prelude.{◌≡◌, ◌≢◌, ℕ, Bool, true, false, List, Option, Some, IfSome}
 use Rattle.std.specs.Prelude.{IsOk, Result, Ok, Err}
 use Rattle.byte_formats.specs.Types.{HashFunction, Text}
 use Rattle.issuance_log.specs.Reasons.{log_open_text}
 use Rattle.disk_core.specs.declared.disk.Disk.{Ghosts}
 use Rattle.journal_core.specs.Format.{end_offset}
-use Rattle.journal_core.specs.declared.error.OpenError.TheVariants as open_error
 use Rattle.tree_core.specs.declared.hashing.TreeHash.{Ghosts as Hashes}
 use Rattle.issuance_log.specs.Folds.{LogState, log_of, view_in}
 use Rattle.issuance_log.specs.Openings.{FoundLog, log_read}
@@ -18,15 +17,16 @@ use Rattle.issuance_log.specs.declared.error.LogOpenError.TheVariants.{Open}
 use Rattle.issuance_log.specs.declared.error.LogOpenError.TheVariants.{Tile as NoTiles}
 use Rattle.issuance_log.specs.declared.log.Log.{Log}
 use Rattle.mtc_io.specs.Counts.{Rose}
-use Rattle.tile_store.specs.declared.error.TileError.TheVariants as tile_error
-use Rattle.mtc_command.specs.Answers.{Ending, Reply, replied, room_failed, no_memory, refused}
-use Rattle.mtc_command.specs.Answers.{IfReply, bad_tile, status_of, tiles_name}
+use Rattle.mtc_command.specs.Answers.{Ending, Reply, replied, refused}
+use Rattle.mtc_command.specs.Answers.{IfReply, status_of, tiles_name}
 use Rattle.mtc_command.specs.Endings.{FailsAt}
 use Rattle.mtc_command.specs.Made.{ReadsAtMost}
-use Rattle.mtc_command.specs.Steps.{Outcome, answers, answers_on, held_in, with_file, with_form}
+use Rattle.mtc_command.specs.Steps.{Outcome, answers_on, held_in, with_file, with_form}
 use Rattle.mtc_command.specs.Valid.{WorksValidly}
 use Rattle.mtc_command.specs.Works.{HasWorkedTiled}
 use Rattle.mtc_command.specs.declared.answer.Stopped.TheVariants.{BadForm}
+pub use Rattle.mtc_tiled.specs.BadTiles.{unless_missing}
+use Rattle.mtc_tiled.specs.Endings.{journal_open_ending, tiles_open_ending}
 use Rattle.mtc_authority.specs.BadTiles.{first_bad}
 use Rattle.mtc_authority.specs.CertOutcome.{cert_reply, light_reply}
 use Rattle.mtc_authority.specs.IssueOutcome.{issue_says}
@@ -48,11 +48,8 @@ use Rattle.mtc_authority.specs.declared.work.Work.TheVariants.{Certs, IssueList,
 -- What comes of it: the line says that the file isn't a log, or that the file of its tiles doesn't
 -- have them, unless the device of one failed or memory was refused.
 abbrev pub log_open_ending : Text → LogOpenError → Ending
-log_open_ending file (Open open_error.Failed) = room_failed file
-log_open_ending file (Open open_error.Memory) = no_memory
-log_open_ending file (NoTiles tile_error.Failed) = room_failed (tiles_name file)
-log_open_ending file (NoTiles (tile_error.BadTile level place)) =
-    replied (bad_tile file level place)
+log_open_ending file (Open why) = journal_open_ending file why
+log_open_ending file (NoTiles why) = tiles_open_ending file why
 log_open_ending file why = replied (refused BadForm (Some file) (log_open_text why))
 
 -- What comes of `tile-anew`, where this is the last size of the tiles, or the refusal.
@@ -93,11 +90,6 @@ log_says h (Certs first last start end signatures) found =
     answers_on found.records (certs_reply h first last start end signatures found.state)
 log_says h Switch found = switch_says found
 log_says h Tile found = tile_says found
-
--- A log whose file of tiles doesn't have this one of them is refused.
-abbrev pub unless_missing : Text → Option (ℕ × ℕ) → Outcome → Outcome
-unless_missing journal None next = next
-unless_missing journal (Some tile) next = answers (bad_tile journal tile.0 tile.1)
 
 abbrev pub tested_says : HashFunction → Text → Work → Text → FoundLog → Outcome
 tested_says h journal work tiles found =

@@ -6,7 +6,7 @@ ghost use Rattle.mtc_command.specs.Answers.{stop_ending, ending_of, tiles_name};
 ghost use Rattle.mtc_command.specs.Served.{HasServedBeside, OnlyReadsBeside};
 ghost use Rattle.mtc_command.specs.Stored.{StoresBeside};
 ghost use Rattle.mtc_command.specs.Valid.{KeepsValid};
-ghost use Rattle.mtc_authority.specs.NoJournal.{SparesTiles};
+ghost use Rattle.mtc_tiled.specs.Headers.{SparesTiles};
 ghost use Rattle.mtc_authority.specs.StoredTiles.{HasTilesOf};
 ghost use Rattle.mtc_authority.specs.Works.{IsLog, RepliesOnLog};
 ghost use Rattle.mtc_proof.specs.Proofs.{AreSignatures};

@@ -6,7 +6,7 @@ ghost use Rattle.mtc_command.specs.Answers.{stop_ending, ending_of, tiles_name};
 ghost use Rattle.mtc_command.specs.Served.{HasServedBeside, OnlyReadsBeside};
 ghost use Rattle.mtc_command.specs.Stored.{StoresBeside};
 ghost use Rattle.mtc_command.specs.Valid.{KeepsValid};
-ghost use Rattle.mtc_authority.specs.NoJournal.{SparesTiles};
+ghost use Rattle.mtc_tiled.specs.Headers.{SparesTiles};
 ghost use Rattle.authority_core.specs.Reasons.{field_text};
 ghost use Rattle.mtc_authority.specs.IssueOutcome.{issue_ending, issue_says};
 ghost use Rattle.mtc_authority.specs.IssueOutcome.{issued_text, MayRefuseEntry};

@@ -6,7 +6,7 @@ ghost use Rattle.mtc_command.specs.Answers.{stop_ending, ending_of, tiles_name};
 ghost use Rattle.mtc_command.specs.Served.{HasServedBeside, OnlyReadsBeside};
 ghost use Rattle.mtc_command.specs.Stored.{StoresBeside};
 ghost use Rattle.mtc_command.specs.Valid.{KeepsValid};
-ghost use Rattle.mtc_authority.specs.NoJournal.{SparesTiles};
+ghost use Rattle.mtc_tiled.specs.Headers.{SparesTiles};
 ghost use Rattle.mtc_authority.specs.ListCommands.{issue_list_outcome};
 ghost use Rattle.mtc_authority.specs.ListOutcomes.{MayRefuseEntries, issue_list_says};
 ghost use Rattle.mtc_authority.specs.ListOutcomes.{issued_lines, request_list_ending};

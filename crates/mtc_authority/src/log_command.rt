@@ -7,7 +7,7 @@ ghost use Rattle.mtc_command.specs.Served.{HasServedBeside, OnlyReadsBeside};
 ghost use Rattle.mtc_command.specs.Stored.{StoresBeside};
 ghost use Rattle.mtc_command.specs.Valid.{KeepsValid};
 ghost use Rattle.mtc_lines.specs.Outputs.{Streams};
-ghost use Rattle.mtc_authority.specs.NoJournal.{SparesTiles};
+ghost use Rattle.mtc_tiled.specs.Headers.{SparesTiles};
 ghost use Rattle.mtc_authority.specs.StoredTiles.{HasTilesOf};
 ghost use Rattle.mtc_authority.specs.Works.{IsLog, lists_items, log_outcome};
 ghost use Rattle.mtc_authority.specs.declared.work.Work.TheVariants.{Tile};

@@ -6,17 +6,17 @@ ghost use Rattle.mtc_command.specs.Answers.{ending_of, no_memory, tiles_name};
 ghost use Rattle.mtc_command.specs.Served.{HasServedBeside};
 ghost use Rattle.mtc_command.specs.Stored.{StoresBeside};
 ghost use Rattle.mtc_command.specs.Valid.{KeepsValid};
-ghost use Rattle.mtc_authority.specs.NoJournal.{SparesTiles};
+ghost use Rattle.mtc_tiled.specs.Headers.{SparesTiles};
 ghost use Rattle.mtc_authority.specs.StoredTiles.{HasTilesOf, MakesTilesWhole};
 ghost use Rattle.mtc_authority.specs.TileOutcome.{rebuilt_outcome};
 ghost use Rattle.mtc_authority.specs.Works.{IsLog, rebuilt_ending};
 
-use crate::opening::{FRAMES, close_devices, open_devices, refuse_log};
-use crate::tiles::text_of_tiles;
+use crate::opening::refuse_log;
 use frame_pool::Pool;
 use issuance_log::{LogOpenError, Rebuilt, rebuild_tiles};
 use mtc_command::{Answer, Reason, Said, Stop, Stopped, refuse, tiles_name};
 use mtc_room::Room;
+use mtc_tiled::{FRAMES, close_devices, open_devices, text_of_tiles};
 use std::alloc::Global;
 use tree_core::TreeHash;
 

@@ -1,29 +1,21 @@
 //! The command `tile`: the tiles that the entries of a log fill are stored.
 
-ghost use Rattle.std.specs.Prelude.{◌≡◌, ◌/◌, ◌*◌, IfOk};
+ghost use Rattle.std.specs.Prelude.{◌≡◌, ◌/◌, ◌*◌};
 ghost use Rattle.mtc_command.specs.Answers.{ending_of, stop_ending};
 ghost use Rattle.mtc_authority.specs.StoredTiles.{StoresLog};
-ghost use Rattle.mtc_authority.specs.TileOutcome.{MayRefuseTiles, tile_says, tiled_line};
-ghost use Rattle.mtc_authority.specs.TileOutcome.{tiles_ending};
+ghost use Rattle.mtc_authority.specs.TileOutcome.{MayRefuseTiles, tile_says, tiles_ending};
 ghost use Rattle.mtc_authority.specs.Works.{HasWorkedOnLog, IsReadyLog, StaysLog};
 
 use disk_core::Disk;
 use issuance_log::{Log, LogError};
 use journal_core::AppendError;
 use mtc_command::{Answer, Reason, Said, Stop, Stopped, refuse};
-use mtc_io::{Bytes, Memory};
+use mtc_tiled::text_of_tiles;
 use std::alloc::Global;
 use tree_core::TreeHash;
 
 // A full tile of the lowest level has the hashes of so many entries.
 const TILE: u64 = 256;
-
-/// The line of tiles up to this size.
-pub(crate) fn text_of_tiles(alloc: Global, size: u64) -> Result<Bytes, Memory>
-    ensures { IfOk result (λ text. text ≡ tiled_line size) }
-{
-    Ok(Bytes::from_vec(format!(in alloc; "tiled {size}\n")?.into_bytes()))
-}
 
 // Why a log that was opened just now stores no tiles.
 fn refuse_tiles<'a>(journal: &'a str, why: LogError) -> Stop<'a>

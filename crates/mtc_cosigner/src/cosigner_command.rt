@@ -18,7 +18,7 @@ use std::alloc::Global;
 use tree_core::TreeHash;
 
 /// Why a journal isn't opened as a cosigner's.
-pub(crate) fn refuse_cosigner<'a>(journal: &'a str, why: CosignerOpenError) -> Stop<'a>
+pub fn refuse_cosigner<'a>(journal: &'a str, why: CosignerOpenError) -> Stop<'a>
     ensures { stop_ending result ≡ cosigner_open_ending journal.now why }
 {
     let bad = Stopped::BadForm;

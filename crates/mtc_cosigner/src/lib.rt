@@ -18,5 +18,5 @@ pub mod keygen;
 pub mod requests;
 mod work;
 
-pub use cosigner_command::on_cosigner;
+pub use cosigner_command::{on_cosigner, refuse_cosigner};
 pub use work::Work;

@@ -31,11 +31,11 @@ use mtc_room::Room;
 use std::alloc::Global;
 use tree_core::TreeHash;
 
-// A buffer of a signature holds no more.
-const LONGEST_SIGNATURE: u16 = 17_748;
+/// A buffer of a signature holds no more.
+pub const LONGEST_SIGNATURE: u16 = 17_748;
 
-// Why a cosigner that was opened just now takes no step.
-fn refuse_step<'a>(journal: &'a str, why: CosignError) -> Stop<'a>
+/// Why a cosigner that was opened just now takes no step.
+pub fn refuse_step<'a>(journal: &'a str, why: CosignError) -> Stop<'a>
     requires { why ≢ CosignError.Append AppendError.Broken }
     ensures { stop_ending result ≡ step_ending journal.now why }
 {
@@ -56,7 +56,8 @@ fn refuse_step<'a>(journal: &'a str, why: CosignError) -> Stop<'a>
     }
 }
 
-fn line_of_size(alloc: Global, size: u64) -> Result<Bytes, Memory>
+/// The line of a cosigner that holds a log of this size.
+pub fn line_of_size(alloc: Global, size: u64) -> Result<Bytes, Memory>
     ensures { IfOk result (λ text. text ≡ advanced_text size) }
 {
     Ok(Bytes::from_vec(format!(in alloc; "advanced {size}\n")?.into_bytes()))

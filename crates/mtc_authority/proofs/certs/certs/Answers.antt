@@ -9,8 +9,8 @@ use Rattle.mtc_authority.specs.StoredTiles.{HasTilesOf}
 use Rattle.mtc_authority.specs.Works.{IsLog, log_outcome}
 use Rattle.mtc_authority.specs.declared.work.Work.TheVariants.{Certs}
 use Rattle.mtc_authority.proofs.CertifiedLists.{all_signed_so}
-use Rattle.mtc_authority.proofs.OnlyRead.{only_read_after, only_read_kept}
-use Rattle.mtc_authority.proofs.OnlyRead.{spared_after, spared_kept}
+use Rattle.mtc_tiled.proofs.OnlyRead.{only_read_after, only_read_kept}
+use Rattle.mtc_tiled.proofs.OnlyRead.{spared_after, spared_kept}
 use Rattle.mtc_authority.proofs.certs.certs.Goals as goal
 
 pub returns-in_err-bytes-clause-serves : goal.returns-in_err-bytes-clause-serves

@@ -13,8 +13,8 @@ use Rattle.mtc_authority.specs.IssueCommand.{issue_outcome, request_says}
 use Rattle.mtc_authority.specs.StoredTiles.{HasTilesOf}
 use Rattle.mtc_authority.specs.Works.{IsLog, log_outcome}
 use Rattle.mtc_authority.specs.declared.work.Work.TheVariants.{Issue}
-use Rattle.mtc_authority.proofs.OnlyRead.{only_read_after, only_read_kept}
-use Rattle.mtc_authority.proofs.OnlyRead.{spared_after, spared_kept}
+use Rattle.mtc_tiled.proofs.OnlyRead.{only_read_after, only_read_kept}
+use Rattle.mtc_tiled.proofs.OnlyRead.{spared_after, spared_kept}
 use Rattle.mtc_authority.proofs.Reading.{asked_so, unread}
 use Rattle.mtc_authority.proofs.issue.issue.Goals as goal
 

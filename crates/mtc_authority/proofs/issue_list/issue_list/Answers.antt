@@ -12,8 +12,8 @@ use Rattle.mtc_authority.specs.ListCommands.{issue_list_outcome, requests_say}
 use Rattle.mtc_authority.specs.StoredTiles.{HasTilesOf}
 use Rattle.mtc_authority.specs.Works.{IsLog, log_outcome}
 use Rattle.mtc_authority.specs.declared.work.Work.TheVariants.{IssueList}
-use Rattle.mtc_authority.proofs.OnlyRead.{only_read_after, only_read_kept}
-use Rattle.mtc_authority.proofs.OnlyRead.{spared_after, spared_kept}
+use Rattle.mtc_tiled.proofs.OnlyRead.{only_read_after, only_read_kept}
+use Rattle.mtc_tiled.proofs.OnlyRead.{spared_after, spared_kept}
 use Rattle.mtc_authority.proofs.ReadingLists.{all_asked_so, unread_list}
 use Rattle.mtc_authority.proofs.issue_list.issue_list.Goals as goal
 

@@ -2,7 +2,8 @@ use Rattle.std.proofs.Common.{◌∙◌, inl, inr, arith}
 use Rattle.std.proofs.lemmas.Result.{err_from_is_err_and}
 use Rattle.mtc_command.specs.declared.answer.Stop.TheVariants.{Memory}
 use Rattle.mtc_lines.proofs.Outputs.{stopped_before, streams_so}
-use Rattle.mtc_authority.proofs.NotOpened.{none_opened}
+use Rattle.mtc_tiled.proofs.NotOpened.{none_opened}
+use Rattle.mtc_authority.specs.OpenLogs.{log_party}
 use Rattle.mtc_authority.proofs.OpenLogs.{log_keeps_valid, log_only_reads, log_serves, log_spares}
 use Rattle.mtc_authority.specs.Works.{log_bytes_say, log_says}
 use Rattle.mtc_authority.proofs.OpenLogs.{log_stores_both, read_stores}
@@ -24,7 +25,7 @@ pub returns-in_err-name-clause-streams : goal.returns-in_err-name-clause-streams
 unfolding Rattle.mtc_authority.specs.Works.log_outcome
 returns-in_err-name-clause-streams g c =
     let refused = err_from_is_err_and c.from_residual.result c.from_residual.ensures.1 in
-    let none = none_opened g.R.Room g.R.Dsk.Disk c.args.journal.now g.H.TreeHash.hash
+    let none = none_opened (log_party g.H.TreeHash.hash) g.R.Room g.R.Dsk.Disk c.args.journal.now
     (log_bytes_say g.H.TreeHash.hash c.args.journal.now c.args.work) c.args.room.now
     g.met.R.Dsk.Disk.only_now in
     rw (refused.1, refused.2)
@@ -41,7 +42,7 @@ returns-in_err-log-clause-streams g c =
 pub returns-in_err-name-clause-valid : goal.returns-in_err-name-clause-valid
 unfolding Rattle.mtc_authority.specs.Works.log_outcome
 returns-in_err-name-clause-valid g c =
-    let none = none_opened g.R.Room g.R.Dsk.Disk c.args.journal.now g.H.TreeHash.hash
+    let none = none_opened (log_party g.H.TreeHash.hash) g.R.Room g.R.Dsk.Disk c.args.journal.now
     (log_bytes_say g.H.TreeHash.hash c.args.journal.now c.args.work) c.args.room.now
     g.met.R.Dsk.Disk.only_now in
     none.valid
@@ -52,7 +53,7 @@ returns-in_err-log-clause-valid g c = (c.in_err-log.ensures.stops c.args.work).v
 
 pub returns-in_err-name-clause-only_read : goal.returns-in_err-name-clause-only_read
 returns-in_err-name-clause-only_read g c =
-    let none = none_opened g.R.Room g.R.Dsk.Disk c.args.journal.now g.H.TreeHash.hash
+    let none = none_opened (log_party g.H.TreeHash.hash) g.R.Room g.R.Dsk.Disk c.args.journal.now
     (log_bytes_say g.H.TreeHash.hash c.args.journal.now c.args.work) c.args.room.now
     g.met.R.Dsk.Disk.only_now in
     none.only_read
@@ -63,7 +64,7 @@ returns-in_err-log-clause-only_read g c = (c.in_err-log.ensures.stops c.args.wor
 pub returns-in_err-name-clause-stores : goal.returns-in_err-name-clause-stores
 unfolding Rattle.mtc_authority.specs.Works.log_outcome
 returns-in_err-name-clause-stores g c =
-    let none = none_opened g.R.Room g.R.Dsk.Disk c.args.journal.now g.H.TreeHash.hash
+    let none = none_opened (log_party g.H.TreeHash.hash) g.R.Room g.R.Dsk.Disk c.args.journal.now
     (log_bytes_say g.H.TreeHash.hash c.args.journal.now c.args.work) c.args.room.now
     g.met.R.Dsk.Disk.only_now in
     none.stores
@@ -74,7 +75,7 @@ returns-in_err-log-clause-stores g c = (c.in_err-log.ensures.stops c.args.work).
 
 pub returns-in_err-name-clause-spares : goal.returns-in_err-name-clause-spares
 returns-in_err-name-clause-spares g c =
-    let none = none_opened g.R.Room g.R.Dsk.Disk c.args.journal.now g.H.TreeHash.hash
+    let none = none_opened (log_party g.H.TreeHash.hash) g.R.Room g.R.Dsk.Disk c.args.journal.now
     (log_bytes_say g.H.TreeHash.hash c.args.journal.now c.args.work) c.args.room.now
     g.met.R.Dsk.Disk.only_now in
     none.spares

@@ -1,7 +1,6 @@
 use Rattle.std.proofs.lemmas.Result.{err_from_is_err_and}
-use Rattle.mtc_command.specs.Answers.{ending_of}
-use Rattle.mtc_authority.specs.TileOutcome.{rebuilt_bytes_say}
-use Rattle.mtc_authority.proofs.Rebuilding.{rebuilt_refuses, rebuilt_serves, rebuilt_spares}
+use Rattle.mtc_command.specs.Answers.{ending_of, stop_ending}
+use Rattle.mtc_authority.proofs.Rebuilding.{rebuilt_not_opened, rebuilt_serves}
 use Rattle.mtc_authority.proofs.Rebuilding.{rebuilt_stores}
 use Rattle.mtc_authority.proofs.Rebuilding.{rebuilt_valid, rebuilt_whole}
 use Rattle.mtc_authority.proofs.Stopping.{stopped_whole}
@@ -14,7 +13,9 @@ returns-in_err-disk-clause-serves g c =
     c.from_residual-in_err-disk.ensures.1 in
     let h = g.H.TreeHash.hash in
     let name = c.args.journal.now in
-    let none = c.in_err-disk.ensures.stops h (rebuilt_bytes_say h name) (rebuilt_refuses h name) in
+    let none = rebuilt_not_opened h g.R.Room g.R.Dsk.Disk name c.args.room.now
+    c.open_devices.new.room (stop_ending c.in_err-disk.field-0.0) g.met.R.Dsk.Disk.only_now
+    c.in_err-disk.ensures.stops in
     rw (refused.1, refused.2) none.serves
 
 pub returns-in_err-disk-clause-valid : goal.returns-in_err-disk-clause-valid
@@ -22,20 +23,26 @@ unfolding Rattle.mtc_authority.specs.TileOutcome.rebuilt_outcome
 returns-in_err-disk-clause-valid g c =
     let h = g.H.TreeHash.hash in
     let name = c.args.journal.now in
-    (c.in_err-disk.ensures.stops h (rebuilt_bytes_say h name) (rebuilt_refuses h name)).valid
+    (rebuilt_not_opened h g.R.Room g.R.Dsk.Disk name c.args.room.now
+    c.open_devices.new.room (stop_ending c.in_err-disk.field-0.0) g.met.R.Dsk.Disk.only_now
+    c.in_err-disk.ensures.stops).valid
 
 pub returns-in_err-disk-clause-stores : goal.returns-in_err-disk-clause-stores
 unfolding Rattle.mtc_authority.specs.TileOutcome.rebuilt_outcome
 returns-in_err-disk-clause-stores g c =
     let h = g.H.TreeHash.hash in
     let name = c.args.journal.now in
-    (c.in_err-disk.ensures.stops h (rebuilt_bytes_say h name) (rebuilt_refuses h name)).stores
+    (rebuilt_not_opened h g.R.Room g.R.Dsk.Disk name c.args.room.now
+    c.open_devices.new.room (stop_ending c.in_err-disk.field-0.0) g.met.R.Dsk.Disk.only_now
+    c.in_err-disk.ensures.stops).stores
 
 pub returns-in_err-disk-clause-spares : goal.returns-in_err-disk-clause-spares
 returns-in_err-disk-clause-spares g c =
     let h = g.H.TreeHash.hash in
     let name = c.args.journal.now in
-    (c.in_err-disk.ensures.stops h (rebuilt_bytes_say h name) (rebuilt_refuses h name)).spares
+    (rebuilt_not_opened h g.R.Room g.R.Dsk.Disk name c.args.room.now
+    c.open_devices.new.room (stop_ending c.in_err-disk.field-0.0) g.met.R.Dsk.Disk.only_now
+    c.in_err-disk.ensures.stops).spares
 
 pub returns-in_err-disk-clause-whole : goal.returns-in_err-disk-clause-whole
 returns-in_err-disk-clause-whole g c =
@@ -43,7 +50,9 @@ returns-in_err-disk-clause-whole g c =
     c.from_residual-in_err-disk.ensures.1 in
     let h = g.H.TreeHash.hash in
     let name = c.args.journal.now in
-    let none = c.in_err-disk.ensures.stops h (rebuilt_bytes_say h name) (rebuilt_refuses h name) in
+    let none = rebuilt_not_opened h g.R.Room g.R.Dsk.Disk name c.args.room.now
+    c.open_devices.new.room (stop_ending c.in_err-disk.field-0.0) g.met.R.Dsk.Disk.only_now
+    c.in_err-disk.ensures.stops in
     rw refused.1
     (stopped_whole h g.R.Room g.R.Dsk.Disk c.args.room.now c.open_devices.new.room name refused.0
     none.only_read)

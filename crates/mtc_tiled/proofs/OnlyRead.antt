@@ -9,7 +9,7 @@ use Rattle.mtc_command.specs.Answers.{tiles_name}
 use Rattle.mtc_command.specs.Made.{HasKept, Leaves, untouched}
 use Rattle.mtc_command.specs.Served.{ClosesAll, OnlyReadsBeside}
 use Rattle.mtc_command.proofs.Made.{OnlyNow, still}
-use Rattle.mtc_authority.specs.NoJournal.{IsNoJournal, SparesTiles}
+use Rattle.mtc_tiled.specs.Headers.{IsNoJournal, SparesTiles}
 
 module _ {R S D : Type 0} (rooms : Rooms R S D) (disks : Disks D) (beside : Text) where
   -- then comes the rest of it
