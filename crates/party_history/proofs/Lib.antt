@@ -4,6 +4,7 @@ pub mod Cosigners
 pub mod Entries
 pub mod Items
 pub mod Keys
+pub mod Mirrors
 mod Replays
 pub mod Sound
 pub mod Steps

@@ -13,6 +13,7 @@ use Rattle.journal_core.specs.Folds.{Fold, state_after, taken_from}
 use Rattle.cosigner_core.specs.Folds.{cosigner_fold}
 use Rattle.file_events.specs.Histories.{History, ReachesAll, TakesSteps, recovered}
 use Rattle.issuance_log.specs.Folds.{log_fold}
+use Rattle.mirror_core.specs.Folds.{mirror_fold}
 use Rattle.party_history.specs.Histories.{if_allowed, may_begin, moved}
 use Rattle.party_history.specs.Journals.{Continues, HasHistory}
 use Rattle.party_history.specs.Laws.{AreAtMost, LeadsTo, body_in, released_bodies}
@@ -62,7 +63,7 @@ one_released s body few =
     ∙ ap (λ (x : Text). released_bodies s ++ x ∷ [])
     (ap (λ (n : ℕ). body_in all n) last ∙ get_or-append_seam ([] ∷ s.durable) body [] [])
 
--- ---- a prefix of records makes a log or a cosigner
+-- ---- a prefix of records makes a log, a cosigner or a mirror
 
 module _ {S E : Type 0} (fold : Fold S E) where
   prefix_taken : (k : ℕ) (s : S) (xs ys : List Text) (t : S)
@@ -88,12 +89,14 @@ module _ {S E : Type 0} (fold : Fold S E) where
 prefix_records : (h : HashFunction) (x : Text) (xs ys : List Text)
     → AreRecords h (x ∷ (xs ++ ys)) → AreRecords h (x ∷ xs)
 prefix_records h x xs ys (inl is) = inl (prefix_state (log_fold h) x xs ys is)
-prefix_records h x xs ys (inr is) = inr (prefix_state (cosigner_fold h) x xs ys is)
+prefix_records h x xs ys (inr (inl is)) = inr (inl (prefix_state (cosigner_fold h) x xs ys is))
+prefix_records h x xs ys (inr (inr is)) = inr (inr (prefix_state (mirror_fold h) x xs ys is))
 
 pub no_records : (h : HashFunction) → AreRecords h [] → ⊥
 unfolding state_after
 no_records h (inl is) = absurd cc
-no_records h (inr is) = absurd cc
+no_records h (inr (inl is)) = absurd cc
+no_records h (inr (inr is)) = absurd cc
 
 -- ---- what is durable after a stop
 

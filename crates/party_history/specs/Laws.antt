@@ -4,6 +4,7 @@ use Rattle.std.specs.Prelude.{slice_index_or, map, Some, IfSome, Contains, Ok}
 use Rattle.byte_formats.specs.Types.{Text}
 use Rattle.file_events.specs.Executions.{IsPrefix}
 use Rattle.issuance_log.specs.Folds.{LogState}
+use Rattle.mirror_core.specs.Folds.{MirrorState}
 use Rattle.party_history.specs.Histories.{Valid, history_of}
 use Rattle.party_history.specs.Parties.{HistoryState}
 use Rattle.party_history.specs.declared.start.PartyStart.{PartyStart}
@@ -77,3 +78,8 @@ pub record KeepsItems (s t : LogState) : Type 0 where
 pub record HasItemAt (index : ℕ) (entry key : Text) (s : LogState) : Type 0 where
   pub entry_is : slice_get s.entries index ≡ Some entry
   pub key_is : slice_get s.keys index ≡ Some key
+
+-- A mirror is of the same log as an earlier one, whose items are still there, at their indices.
+pub record KeepsMirroredItems (s t : MirrorState) : Type 0 where
+  pub log : t.log ≡ s.log
+  pub items : IsPrefix s.items t.items

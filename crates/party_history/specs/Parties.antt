@@ -1,4 +1,5 @@
--- A party and its steps: a log or a cosigner with its journal, and what becomes of its records.
+-- A party and its steps: a log, a cosigner or a mirror with its journal, and what becomes of its
+-- records.
 use Rattle.std.specs.Prelude.{ℕ, Bool, true, false, List, [], ◌∷◌, ◌++◌, length, Option, Some}
 use Rattle.std.specs.Prelude.{None, if◌then◌else◌}
 use Rattle.byte_formats.specs.Types.{Text}

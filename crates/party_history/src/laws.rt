@@ -8,11 +8,14 @@ ghost use Rattle.journal_core.specs.Format.{Represents};
 ghost use Rattle.file_events.specs.Histories.{ReachesAll, TakesSteps};
 ghost use Rattle.issuance_log.specs.Folds.{LogState, log_of};
 ghost use Rattle.issuance_log.specs.Records.{added_items, item_in, switch_record};
+ghost use Rattle.file_events.specs.Executions.{IsPrefix};
+ghost use Rattle.mirror_core.specs.Folds.{MirrorState, mirror_of};
+ghost use Rattle.mirror_core.specs.Records.{mirrored_by};
 ghost use Rattle.party_history.specs.Histories.{history_of, moved};
 ghost use Rattle.party_history.specs.Journals.{Continues, HasHistory};
 ghost use Rattle.party_history.specs.KeyUses.{UseKeysInOrder};
 ghost use Rattle.party_history.specs.Laws.{HasGrown, HasItemAt, IsOfDurable, IsSoundParty};
-ghost use Rattle.party_history.specs.Laws.{KeepsItems, LeadsTo, WerePending};
+ghost use Rattle.party_history.specs.Laws.{KeepsItems, KeepsMirroredItems, LeadsTo, WerePending};
 ghost use Rattle.party_history.specs.Parties.{HistoryState, fresh_party, party_of_step};
 ghost use Rattle.party_history.specs.Rules.{AreRecords, IsReadAs, StartsWith, may_follow as valid};
 ghost use Rattle.party_history.specs.declared.start.PartyStart.{PartyStart};
@@ -70,8 +73,8 @@ pub fn law_one_time_keys_are_used_once()
 {}
 
 /// Bodies may follow the first record of a party's journal exactly if a history may begin them, and
-/// each file that represents such records is opened with them. Each journal of a log or a cosigner
-/// is that of a party.
+/// each file that represents such records is opened with them. Each journal of a log, a cosigner or
+/// a mirror is that of a party.
 pub fn law_journals_and_histories_agree()
     ensures start { (h : HashFunction) (first : Text) (bodies : List Text)
         → AreRecords h (first ∷ bodies) → (start : PartyStart) × StartsWith start first }
@@ -125,4 +128,15 @@ pub fn law_logs_stay_switched()
     ensures kept { (h : HashFunction) (list more : List Text) (s t : LogState) (index : ℕ)
         → log_of h list ≡ Ok s → log_of h (list ++ more) ≡ Ok t → s.switched ≡ Some index
         → t.switched ≡ Some index }
+{}
+
+/// A mirror keeps its log and its items, at their indices, whatever records follow its own. The
+/// items of a Batch stand right after those of the records before it, in their order.
+pub fn law_mirrors_keep_their_items()
+    ensures added { (h : HashFunction) (list : List Text) (body : Text) (more : List Text)
+        (s t : MirrorState) → mirror_of h list ≡ Ok s
+        → mirror_of h ((list ++ body ∷ []) ++ more) ≡ Ok t
+        → IsPrefix (s.items ++ mirrored_by body) t.items }
+    ensures kept { (h : HashFunction) (list more : List Text) (s t : MirrorState)
+        → mirror_of h list ≡ Ok s → mirror_of h (list ++ more) ≡ Ok t → KeepsMirroredItems s t }
 {}

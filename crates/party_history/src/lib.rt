@@ -1,6 +1,6 @@
-//! Histories of parties: what became of logs and cosigners, step by step.
+//! Histories of parties: what became of logs, cosigners and mirrors, step by step.
 //!
-//! A party is a log or a cosigner with its journal. Its history is a list of
+//! A party is a log, a cosigner or a mirror with its journal. Its history is a list of
 //! steps: a record becomes pending, durable, and released, and the party stops anywhere.
 //! [`history`] answers the states of all parties after a list of steps, or the first step that the
 //! rules do not allow: a record may begin exactly if none is pending and the rules of its party

@@ -3,7 +3,7 @@
 ghost use Rattle.std.specs.Prelude.{◌≡◌, [], ◌∷◌, ◌++◌, IfOk};
 ghost use Rattle.party_history.specs.Rules.{may_follow};
 
-use crate::start::PartyStart;
+use crate::start::{PartyStart, copy_of};
 use mtc_io::{Bytes, Memory};
 use std::alloc::Global;
 use tree_core::TreeHash;
@@ -26,5 +26,9 @@ pub(crate) fn may_follow<H: TreeHash>(
             settings,
             public: _,
         } => Ok(cosigner_core::may_follow::<H>(settings, bodies, body)),
+        PartyStart::Mirror(log) => {
+            let log = copy_of(alloc, log)?;
+            Ok(mirror_core::may_follow::<H>(log, bodies, body))
+        }
     }
 }

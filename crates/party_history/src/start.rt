@@ -8,7 +8,7 @@ use mtc_io::Memory;
 use std::alloc::Global;
 use tls_wire::AnchorId;
 
-/// How a party begins: as a log, or as a cosigner. It has no secret.
+/// How a party begins: as a log, as a cosigner, or as a mirror. It has no secret.
 #[derive(Debug, Drop)]
 pub enum PartyStart {
     /// A log with these settings.
@@ -18,10 +18,12 @@ pub enum PartyStart {
         settings: CosignerSettings,
         public: [u8; 60],
     },
+    /// A mirror of the log with this id.
+    Mirror(AnchorId),
 }
 
-// The same id once more.
-fn copy_of(alloc: Global, id: &AnchorId) -> Result<AnchorId, Memory>
+/// The same id once more.
+pub(crate) fn copy_of(alloc: Global, id: &AnchorId) -> Result<AnchorId, Memory>
     ensures { IfOk result (λ copy. copy ≡ id.now) }
 {
     // It is read again, unless memory is refused.
@@ -48,6 +50,7 @@ impl PartyStart {
                 },
                 public: *public,
             }),
+            PartyStart::Mirror(log) => Ok(PartyStart::Mirror(copy_of(alloc, log)?)),
         }
     }
 }
