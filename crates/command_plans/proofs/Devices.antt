@@ -1,12 +1,12 @@
 -- A command that worked on any number of devices has done what the outcome wants.
 use Rattle.std.proofs.Common.{◌≡◌, ◌≢◌, ◌≤◌, inl, inr, ℕ, Bool, true, false, not, List, [], ◌∷◌}
-use Rattle.std.proofs.Common.{◌++◌, Option, None, Some, IsSome, subst, sym, ◌∙◌, ap, refl, arith}
+use Rattle.std.proofs.Common.{◌++◌, Option, None, Some, IsSome, subst, sym, ◌∙◌, ap, arith}
 use Rattle.std.specs.Option.{IsSomeAnd}
 use Rattle.mtc_io.specs.Counts.{Rose}
 use Rattle.disk_core.specs.declared.disk.Disk.{Ghosts}
 use Rattle.disk_core.specs.Same.{SameDevice}
 use Rattle.mtc_room.specs.Places.{place_of}
-use Rattle.mtc_room.specs.Room.{OpensBytes, Stays}
+use Rattle.mtc_room.specs.Room.{Stays}
 use Rattle.mtc_room.specs.declared.room.Room.{Ghosts as Rooms}
 use Rattle.mtc_command.specs.Answers.{Ending, replied, room_failed, no_memory}
 use Rattle.mtc_command.specs.Endings.{FailedOnly, IsNamed, LeftBy}
@@ -20,8 +20,8 @@ use Rattle.mtc_command.proofs.Served.{other_last, reply_so, rose_since}
 use Rattle.mtc_command.proofs.Works.{rose_with}
 use Rattle.command_plans.specs.Devices.{AllDiffer, AreHeld, AreThere, Device, DevicesServe}
 use Rattle.command_plans.specs.Devices.{EachDevice, FailsAmong, IfJournal, IsElsewhere}
-use Rattle.command_plans.specs.Devices.{LeavesDevices, OpensEach, SomeDevice, device_besides}
-use Rattle.command_plans.specs.Devices.{device_journals, named_if, rest_if}
+use Rattle.command_plans.specs.Devices.{LeavesDevices, OpensAround, OpensEach, SomeDevice}
+use Rattle.command_plans.specs.Devices.{device_besides, device_journals, named_if, rest_if}
 
 -- ---- lists of devices
 
@@ -75,12 +75,14 @@ there_not file there none = let wrong = subst IsSome none there in cc
 
 module _ {R S D : Type 0} (rooms : Rooms R S D) (g : Ghosts D) where
   -- a file of another name
-  pub through : (devices : List (Device D)) (old new : R) → OpensEach rooms g devices old new
-      → (name : List ℕ) → EachDevice (IsElsewhere rooms.leads_to name) devices
+  pub through : (names : List (List ℕ)) (devices : List (Device D)) (old new : R)
+      → OpensAround rooms g names devices old new → (name : List ℕ)
+      → IsOther rooms.leads_to names name
+      → EachDevice (IsElsewhere rooms.leads_to name) devices
       → Stays (rooms.file old) (rooms.file new) (rooms.device old) (rooms.device new) name
-  through [] old new closes name differ = closes.others name tt
-  through (device ∷ rest) old new opens name differ =
-      let inner = through rest opens.0 opens.1 opens.3 name differ.1 in
+  through names [] old new closes name other differ = closes.others name other
+  through names (device ∷ rest) old new opens name other differ =
+      let inner = through names rest opens.0 opens.1 opens.3 name other differ.1 in
       let first = opens.2.others name differ.0 in
       let last = opens.4.others name differ.0 in
       record {
@@ -88,25 +90,61 @@ module _ {R S D : Type 0} (rooms : Rooms R S D) (g : Ghosts D) where
         disk = last.disk ∙ inner.disk ∙ first.disk;
       }
 
-  pub modelled : (devices : List (Device D)) (old new : R) → OpensEach rooms g devices old new
-      → rooms.is_modelled old → rooms.is_modelled new
-  modelled [] old new closes t = closes.is_modelled t
-  modelled (device ∷ rest) old new opens t =
-      opens.4.is_modelled (modelled rest opens.0 opens.1 opens.3 (opens.2.is_modelled t))
+  pub modelled : (names : List (List ℕ)) (devices : List (Device D)) (old new : R)
+      → OpensAround rooms g names devices old new → rooms.is_modelled old → rooms.is_modelled new
+  modelled names [] old new closes t = closes.is_modelled t
+  modelled names (device ∷ rest) old new opens t =
+      opens.4.is_modelled (modelled names rest opens.0 opens.1 opens.3 (opens.2.is_modelled t))
 
-  pub all_closed : (devices : List (Device D)) (old new : R) → OpensEach rooms g devices old new
-      → rooms.opened new ≡ rooms.opened old
-  all_closed [] old new closes = closes.opened
-  all_closed (device ∷ rest) old new opens =
-      let inner = all_closed rest opens.0 opens.1 opens.3 in
+  pub all_closed : (names : List (List ℕ)) (devices : List (Device D)) (old new : R)
+      → OpensAround rooms g names devices old new → rooms.opened new ≡ rooms.opened old
+  all_closed names [] old new closes = closes.opened
+  all_closed names (device ∷ rest) old new opens =
+      let inner = all_closed names rest opens.0 opens.1 opens.3 in
       omega (arith, inner, opens.2.opened, opens.4.opened)
 
-  pub later : (devices : List (Device D)) (old new : R) → OpensEach rooms g devices old new
-      → rooms.faults old ≤ rooms.faults new
-  later [] old new closes = closes.later
-  later (device ∷ rest) old new opens =
-      let inner = later rest opens.0 opens.1 opens.3 in
+  pub later : (names : List (List ℕ)) (devices : List (Device D)) (old new : R)
+      → OpensAround rooms g names devices old new → rooms.faults old ≤ rooms.faults new
+  later names [] old new closes = closes.later
+  later names (device ∷ rest) old new opens =
+      let inner = later names rest opens.0 opens.1 opens.3 in
       omega (arith, inner, opens.2.fine, opens.4.count)
+
+  -- the file system failed if one of the devices did
+  abbrev pub Counts : R → R → Device D → Type 0
+  Counts old new device = Rose (g.faults device.before) (g.faults device.after)
+      → Rose (rooms.faults old) (rooms.faults new)
+
+  first_counts : (device : Device D) (rest : List (Device D)) (old new : R)
+      → OpensEach rooms g (device ∷ rest) old new → Counts old new device
+  first_counts device rest old new opens rose =
+      let so = later [] rest opens.0 opens.1 opens.3 in
+      rose_since (rooms.faults old) (rooms.faults opens.1) (rooms.faults new)
+      (omega (arith, so, opens.2.fine))
+      (subst (Rose (rooms.faults opens.1)) (sym opens.4.count)
+      (rose_with (rooms.faults opens.1) (g.faults device.after)
+      (subst (λ n. Rose n (g.faults device.after)) opens.2.begins rose)))
+
+  each_counted : (one : Device D) (rest : List (Device D)) (old mid kept new : R)
+      → HasOpenedBeside rooms g one.name old mid one.before
+      → HasClosed rooms g one.name kept new one.after → EachDevice (Counts mid kept) rest
+      → EachDevice (Counts old new) rest
+  each_counted one [] old mid kept new opened closed each = tt
+  each_counted one (device ∷ rest) old mid kept new opened closed each = (
+    λ rose. rose_on (rooms.faults old) (rooms.faults kept) (rooms.faults new)
+        (subst (λ n. Rose n (rooms.faults kept)) opened.fine (each.0 rose))
+        (omega (arith, closed.count)),
+    each_counted one rest old mid kept new opened closed each.1,
+  )
+
+  each_counts : (devices : List (Device D)) (old new : R) → OpensEach rooms g devices old new
+      → EachDevice (Counts old new) devices
+  each_counts [] old new opens = tt
+  each_counts (device ∷ rest) old new opens = (
+    first_counts device rest old new opens,
+    each_counted device rest old opens.0 opens.1 new opens.2 opens.4
+        (each_counts rest opens.0 opens.1 opens.3),
+  )
 
   -- what is so of one device beside the file system before all and after all
   pub record IsDeviceOf (old new : R) (device : Device D) : Type 0 where
@@ -116,8 +154,6 @@ module _ {R S D : Type 0} (rooms : Rooms R S D) (g : Ghosts D) where
         → IsSomeAnd (rooms.device old device.name) (λ x. SameDevice g x device.before)
     pub put : rooms.is_modelled old
         → IsSomeAnd (rooms.device new device.name) (λ x. SameDevice g device.after x)
-    pub rose : Rose (g.faults device.before) (g.faults device.after)
-        → Rose (rooms.faults old) (rooms.faults new)
 
   first_device : (device : Device D) (rest : List (Device D)) (old new : R)
       → EachDevice (IsElsewhere rooms.leads_to device.name) rest
@@ -127,8 +163,7 @@ module _ {R S D : Type 0} (rooms : Rooms R S D) (g : Ghosts D) where
       let kept = opens.1 in
       let opened = opens.2 in
       let closed = opens.4 in
-      let inner = through rest mid kept opens.3 device.name differ in
-      let so = later rest mid kept opens.3 in
+      let inner = through [] rest mid kept opens.3 device.name tt differ in
       record {
         held = λ t. held_as (rooms.file old device.name) (rooms.file mid device.name)
             (g.contents device.before) (opened.bytes t) (λ there. (opened.kept t there).bytes)
@@ -136,13 +171,8 @@ module _ {R S D : Type 0} (rooms : Rooms R S D) (g : Ghosts D) where
         was = λ t there. subst
             (λ (o : Option D). IsSomeAnd o (λ x. SameDevice g x device.before))
             (opened.kept t there).disk (opened.device t);
-        put = λ t. closed.device (modelled rest mid kept opens.3 (opened.is_modelled t))
+        put = λ t. closed.device (modelled [] rest mid kept opens.3 (opened.is_modelled t))
             (subst IsSome (sym inner.bytes) (opened.bytes t).there);
-        rose = λ rose. rose_since (rooms.faults old) (rooms.faults kept) (rooms.faults new)
-            (omega (arith, so, opened.fine))
-            (subst (Rose (rooms.faults kept)) (sym closed.count)
-            (rose_with (rooms.faults kept) (g.faults device.after)
-            (subst (λ n. Rose n (g.faults device.after)) opened.begins rose)));
       }
 
   moved : (one device : Device D) (old mid kept new : R)
@@ -161,9 +191,6 @@ module _ {R S D : Type 0} (rooms : Rooms R S D) (g : Ghosts D) where
             (is.was (opened.is_modelled t) (subst IsSome (sym first.bytes) there));
         put = λ t. subst (λ (o : Option D). IsSomeAnd o (λ x. SameDevice g device.after x))
             (sym last.disk) (is.put (opened.is_modelled t));
-        rose = λ rose. rose_on (rooms.faults old) (rooms.faults kept) (rooms.faults new)
-            (subst (λ n. Rose n (rooms.faults kept)) opened.fine (is.rose rose))
-            (omega (arith, closed.count));
       }
 
   each_moved : (one : Device D) (rest : List (Device D)) (old mid kept new : R)
@@ -194,19 +221,19 @@ module _ {R S D : Type 0} (rooms : Rooms R S D) (g : Ghosts D) where
   all_held (device ∷ rest) old new each t = (each.0.held t, all_held rest old new each.1 t)
 
   failed_some : (devices : List (Device D)) (old new : R) (files : List (List ℕ))
-      (file : List ℕ) → EachDevice (IsDeviceOf old new) devices
+      (file : List ℕ) → EachDevice (Counts old new) devices
       → EachDevice (λ device. IsNamed files device.name) devices
       → SomeDevice (λ device. (file ≡ device.name)
       × Rose (g.faults device.before) (g.faults device.after)) devices
       → Rose (rooms.faults old) (rooms.faults new) × IsNamed files file
   failed_some [] old new files file each named some = absurd some
   failed_some (device ∷ rest) old new files file each named some = elim some [
-    | inl here ↦ (each.0.rose here.1, subst (IsNamed files) (sym here.0) named.0)
+    | inl here ↦ (each.0 here.1, subst (IsNamed files) (sym here.0) named.0)
     | inr there ↦ failed_some rest old new files file each.1 named.1 there
   ]
 
   failed_among : (devices : List (Device D)) (old new : R) (files : List (List ℕ))
-      (ending : Ending) → EachDevice (IsDeviceOf old new) devices
+      (ending : Ending) → EachDevice (Counts old new) devices
       → EachDevice (λ device. IsNamed files device.name) devices → FailsAmong g devices ending
       → FailedOnly (Rose (rooms.faults old) (rooms.faults new)) files ending
   failed_among devices old new files (replied reply) each named fails = tt
@@ -258,35 +285,38 @@ module _ {R S D : Type 0} (rooms : Rooms R S D) (g : Ghosts D) where
       (left_each rest old new ending (rest_if device.journal dids) t each.1 there.1 left.1)
 
   pub devices_serve : DevicesServe rooms g
-  devices_serve files outcome devices old new ending differ there named opens worked =
-      let each = each_device devices old new differ opens in
+  devices_serve files outcome devices old new ending modelled_so named opens worked =
+      let each : rooms.is_modelled old → EachDevice (IsDeviceOf old new) devices
+      = λ t. each_device devices old new (modelled_so t).0 opens in
+      let held : rooms.is_modelled old → AreHeld g (rooms.file old) devices
+      = λ t. all_held devices old new (each t) t in
       let journals = device_journals devices in
       let besides = device_besides devices in
       record {
         back = record {
-          opened = all_closed devices old new opens;
-          later = later devices old new opens;
-          is_modelled = modelled devices old new opens;
-          others = λ name other. through devices old new opens name
+          opened = all_closed [] devices old new opens;
+          later = later [] devices old new opens;
+          is_modelled = modelled [] devices old new opens;
+          others = λ name other. through [] devices old new opens name tt
               (other_devices rooms.leads_to devices name
               (other_first rooms.leads_to besides journals name other)
               (other_last rooms.leads_to besides journals name other));
         };
         ends = record {
-          reply = reply_so ending _ _
-              (λ reply is t. is (rooms.file old) (all_held devices old new each t)) worked.reply;
+          reply = reply_so ending _ _ (λ reply is t. is (rooms.file old) (held t)) worked.reply;
           words = λ bad. absurd bad;
           not_words = worked.plain;
-          fault = failed_among devices old new files ending each named worked.fault;
-          early = reply_so ending _ _
-              (λ reply is t. is (rooms.file old) (all_held devices old new each t)) worked.early;
+          fault = failed_among devices old new files ending (each_counts devices old new opens)
+              named worked.fault;
+          early = reply_so ending _ _ (λ reply is t. is (rooms.file old) (held t)) worked.early;
         };
         made = λ t.
             let dids = (outcome (rooms.file old)).journals in
+            let there = (modelled_so t).1 in
             record {
-              no_file = no_file_each devices old new dids (there t);
-              unmade = λ memory. unmade_each devices old new dids (there t);
-              left = left_each devices old new ending dids t each (there t)
-                  (worked.left (rooms.file old) (all_held devices old new each t));
+              no_file = no_file_each devices old new dids there;
+              unmade = λ memory. unmade_each devices old new dids there;
+              left = left_each devices old new ending dids t (each t) there
+                  (worked.left (rooms.file old) (held t));
             };
       }

@@ -5,5 +5,6 @@ pub mod Coming
 pub mod Facts
 pub mod Forms
 pub mod Devices
+pub mod Read
 pub mod Stops
 pub mod Opened

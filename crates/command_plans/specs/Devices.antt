@@ -111,24 +111,30 @@ module _ {D : Type 0} (g : Ghosts D) where
 -- ---- the files
 
 module _ {R S D : Type 0} (rooms : Rooms R S D) (g : Ghosts D) where
-  -- They were opened in their order, and closed in the opposite one.
+  -- They were opened in their order, and closed in the opposite one. In between only the files at
+  -- the places of these names may have changed.
+  abbrev pub OpensAround : List Text → List (Device D) → R → R → Type 0
+  OpensAround names [] old new = ClosesAll rooms old new names
+  OpensAround names (device ∷ rest) old new = (mid : R) × (kept : R)
+      × HasOpenedBeside rooms g device.name old mid device.before
+      × OpensAround names rest mid kept × HasClosed rooms g device.name kept new device.after
+
+  -- In between nothing changed.
   abbrev pub OpensEach : List (Device D) → R → R → Type 0
-  OpensEach [] old new = ClosesAll rooms old new []
-  OpensEach (device ∷ rest) old new = (mid : R) × (kept : R)
-      × HasOpenedBeside rooms g device.name old mid device.before × OpensEach rest mid kept
-      × HasClosed rooms g device.name kept new device.after
+  OpensEach = OpensAround []
 
   -- Each journal is there.
   abbrev pub AreThere : R → List (Device D) → Type 0
   AreThere old =
       EachDevice (λ device. IfJournal device.journal (IsSome (rooms.file old device.name)))
 
-  -- A command that opened devices of different places, among those that it names, worked on them
-  -- and closed them has done what the outcome of the files wants.
+  -- A command that opened devices, among those that it names, worked on them and closed them has
+  -- done what the outcome of the files wants. If the model knows the files, the devices have to be
+  -- of different places, and the journals there.
   abbrev pub DevicesServe : Type 0
   DevicesServe = (files : List Text) (outcome : Files → Outcome) (devices : List (Device D))
-      (old new : R) (ending : Ending) → AllDiffer rooms.leads_to devices
-      → (rooms.is_modelled old → AreThere old devices)
+      (old new : R) (ending : Ending)
+      → (rooms.is_modelled old → AllDiffer rooms.leads_to devices × AreThere old devices)
       → EachDevice (λ device. IsNamed files device.name) devices → OpensEach devices old new
       → HasWorkedOver g outcome devices ending
       → HasDone rooms g ⊥ files (device_journals devices) (device_besides devices)

@@ -43,14 +43,14 @@ pub fn law_heard_commands_have_passed<K: JournalKinds>()
 /// A command opens the devices of any number of journals, each of which is there, and of other
 /// files, which are made empty where they aren't there. It closes them in the opposite order. It
 /// has done what the outcome wants if its work on them gives the outcome of the files that they
-/// read as, whatever these are.
+/// read as, whatever these are. If the model knows the files, no two are of one place.
 pub fn law_work_on_devices_serves<R: Room>()
     ensures { DevicesServe R.Room R.Dsk.Disk }
 {}
 
 /// A command that stops before its work, after it has opened some devices, closes them and leaves
-/// nothing new of them. It has done what the outcome wants if it replies as is wanted, with an
-/// early status, or stops at a failure.
+/// nothing new of them, also where it opened one file twice, by two names. It has done what the
+/// outcome wants if it replies as is wanted, with an early status, or stops at a failure.
 pub fn law_stops_before_the_work_serve<R: Room>()
     ensures { StopsServe R.Room R.Dsk.Disk }
 {}
