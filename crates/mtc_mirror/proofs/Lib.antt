@@ -1,0 +1,9 @@
+pub mod BadTiles
+pub mod Opened
+pub mod Served
+pub mod Appends
+pub mod Stored
+pub mod Taken
+pub mod Storing
+pub mod Reading
+pub mod Streamed

@@ -1,0 +1,5 @@
+pub mod MirrorOutcomes
+pub mod Works
+pub mod StoredTiles
+pub mod OpenMirrors
+pub mod Commands

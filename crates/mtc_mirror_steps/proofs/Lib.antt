@@ -1,0 +1,12 @@
+pub mod Around
+pub mod SecondRead
+pub mod Stopped
+pub mod Nests
+pub mod Stepping
+pub mod OneKind
+pub mod Known
+pub mod Together
+pub mod Unopened
+pub mod Stores
+pub mod StepEnds
+pub mod Requested

@@ -1,0 +1,3 @@
+pub mod ReadSecond
+pub mod StepOutcomes
+pub mod StepWorks
