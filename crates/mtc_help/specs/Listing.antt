@@ -14,6 +14,9 @@ use Rattle.mtc_words.specs.declared.name.Name.TheVariants.{Landmark, Landmarks, 
 use Rattle.mtc_words.specs.declared.name.Name.TheVariants.{TrustLandmarks, Cert, Audit, Drill}
 use Rattle.mtc_words.specs.declared.name.Name.TheVariants.{Switch, Tile, TileAnew}
 use Rattle.mtc_words.specs.declared.name.Name.TheVariants.{Certs, IssueList, LightCerts}
+use Rattle.mtc_words.specs.declared.name.Name.TheVariants.{MirrorInit, MirrorTake, MirrorTile}
+use Rattle.mtc_words.specs.declared.name.Name.TheVariants.{MirrorEntries, MirrorAdvance}
+use Rattle.mtc_words.specs.declared.name.Name.TheVariants.{MirrorCosign}
 use Rattle.mtc_words.specs.declared.name.Name.TheVariants.{Root, Held, MonitorInit, Monitor}
 use Rattle.mtc_words.specs.declared.name.Name.TheVariants.{Help, Version}
 
@@ -22,7 +25,8 @@ abbrev pub listed_commands : List Name
 listed_commands = Member ∷ Show ∷ Verify ∷ InitLog ∷ Issue ∷ IssueList ∷ Checkpoint ∷ Entries
     ∷ EntriesFrom ∷ Consist ∷ Subtree ∷ Keygen ∷ InitCosigner ∷ InitCosigner2 ∷ Advance ∷ Child
     ∷ Cosign ∷ Export ∷ Landmark ∷ Landmarks ∷ LightCert ∷ LightCerts ∷ Switch ∷ Tile ∷ TileAnew
-    ∷ TrustLandmarks ∷ Cert ∷ Certs ∷ Audit ∷ Quarrel ∷ Drill ∷ Root ∷ Held ∷ MonitorInit ∷ Monitor
+    ∷ TrustLandmarks ∷ Cert ∷ Certs ∷ MirrorInit ∷ MirrorTake ∷ MirrorTile ∷ MirrorEntries
+    ∷ MirrorAdvance ∷ MirrorCosign ∷ Audit ∷ Quarrel ∷ Drill ∷ Root ∷ Held ∷ MonitorInit ∷ Monitor
     ∷ Help ∷ Version ∷ []
 
 -- The first part of a text, up to a colon.

@@ -33,6 +33,12 @@ trust-landmarks LIST MAXACTIVE ENTRIES: the tables of a store that trusts the su
 active landmarks\n\
 cert J INDEX START END SIGNATURES: the certificate, in DER\n\
 certs J FIRST LAST START END SIGNATURES: the certificates, as PEM\n\
+mirror-init M LOGID: mirror LOGID\n\
+mirror-take M ENTRIES: mirrored SIZE\n\
+mirror-tile M: tiled SIZE\n\
+mirror-entries M SIZE: the entries file of its first SIZE entries\n\
+mirror-advance S M SIZE: advanced SIZE\n\
+mirror-cosign S M START END: the signature, with the cosigner's id\n\
 audit CERT STORE NOW ENTRIES EXPORT: stands INDEX, foreign WANTED FOUND, unrecorded, or collision \
 and two lines in hexadecimal; refused NAME .. as verify\n\
 quarrel EXPORT: agree; or quarrel FIRST SECOND, the numbers of their one-time keys, and two lines \

@@ -1,6 +1,6 @@
 -- What contracts see of a command.
-use Rattle.std.specs.Prelude.{◌≡◌, ℕ, ◌==◌, ◌&&◌, ◌||◌, Bool, true, nat_le, List, Result, Ok, Err}
-use Rattle.std.specs.Prelude.{Option, Some, None, IfSome}
+use Rattle.std.specs.Prelude.{◌≡◌, ℕ, ◌==◌, ◌&&◌, ◌||◌, Bool, true, nat_le, List, [], ◌∷◌, Option}
+use Rattle.std.specs.Prelude.{IfSome, Result, Ok, Err}
 use Rattle.byte_formats.specs.Types.{Text}
 use Rattle.landmarks.specs.Limits.{most_active, most_entries}
 use Rattle.mtc_words.specs.declared.command.Command.{Command}
@@ -14,6 +14,9 @@ use Rattle.mtc_words.specs.declared.command.Command.TheVariants.{Landmark, Landm
 use Rattle.mtc_words.specs.declared.command.Command.TheVariants.{TrustLandmarks, Cert, Audit, Drill}
 use Rattle.mtc_words.specs.declared.command.Command.TheVariants.{Tile, TileAnew, Switch}
 use Rattle.mtc_words.specs.declared.command.Command.TheVariants.{IssueList, LightCerts, Certs}
+use Rattle.mtc_words.specs.declared.command.Command.TheVariants.{MirrorInit, MirrorTake, MirrorTile}
+use Rattle.mtc_words.specs.declared.command.Command.TheVariants.{MirrorEntries, MirrorAdvance}
+use Rattle.mtc_words.specs.declared.command.Command.TheVariants.{MirrorCosign}
 use Rattle.mtc_words.specs.declared.command.Command.TheVariants.{Root, Held, MonitorInit, Monitor}
 use Rattle.mtc_words.specs.declared.command.Command.TheVariants.{Help, Version}
 use Rattle.mtc_words.specs.declared.error.WordError.{WordError}
@@ -50,6 +53,12 @@ pub data CommandValue : Type 0 where
   issue_list : Text → Text → CommandValue
   light_certs : Text → ℕ → ℕ → CommandValue
   certs : Text → ℕ → ℕ → ℕ → ℕ → Text → CommandValue
+  mirror_init : Text → Text → CommandValue
+  mirror_take : Text → Text → CommandValue
+  mirror_tile : Text → CommandValue
+  mirror_entries : Text → ℕ → CommandValue
+  mirror_advance : Text → Text → ℕ → CommandValue
+  mirror_cosign : Text → Text → ℕ → ℕ → CommandValue
   root : Text → CommandValue
   held : Text → CommandValue
   monitor_init : Text → CommandValue
@@ -94,6 +103,14 @@ command_value (IssueList journal requests) = issue_list journal.now requests.now
 command_value (LightCerts journal first last) = light_certs journal.now first last
 command_value (Certs journal first last start end signatures) =
     certs journal.now first last start end signatures.now
+command_value (MirrorInit journal id) = mirror_init journal.now id
+command_value (MirrorTake journal items) = mirror_take journal.now items.now
+command_value (MirrorTile journal) = mirror_tile journal.now
+command_value (MirrorEntries journal size) = mirror_entries journal.now size
+command_value (MirrorAdvance cosigner mirror size) =
+    mirror_advance cosigner.now mirror.now size
+command_value (MirrorCosign cosigner mirror start end) =
+    mirror_cosign cosigner.now mirror.now start end
 command_value (Root items) = root items.now
 command_value (Held kept) = held kept.now
 command_value (MonitorInit id) = monitor_init id
@@ -165,6 +182,12 @@ IsInRange (switch journal) = Unit {0}
 IsInRange (issue_list journal requests) = Unit {0}
 IsInRange (light_certs journal first last) = Unit {0}
 IsInRange (certs journal first last start end signatures) = Unit {0}
+IsInRange (mirror_init journal id) = Unit {0}
+IsInRange (mirror_take journal items) = Unit {0}
+IsInRange (mirror_tile journal) = Unit {0}
+IsInRange (mirror_entries journal size) = Unit {0}
+IsInRange (mirror_advance cosigner mirror size) = Unit {0}
+IsInRange (mirror_cosign cosigner mirror start end) = Unit {0}
 IsInRange (root items) = Unit {0}
 IsInRange (held kept) = Unit {0}
 IsInRange (monitor_init id) = Unit {0}
@@ -172,41 +195,47 @@ IsInRange (monitor state watch request items) = Unit {0}
 IsInRange help = Unit {0}
 IsInRange version = Unit {0}
 
--- The journal that a command names.
-abbrev pub journal_of : CommandValue → Option Text
-journal_of (member file) = None
-journal_of (show file) = None
-journal_of (verify certificate store unix_time) = None
-journal_of (init_log journal id active limit) = Some journal
-journal_of (issue journal request) = Some journal
-journal_of (checkpoint journal) = Some journal
-journal_of (entries journal size) = Some journal
-journal_of (entries_from journal first size) = Some journal
-journal_of (consist journal old new) = Some journal
-journal_of (subtree journal start end size) = Some journal
-journal_of (keygen height width secret) = None
-journal_of (init_cosigner journal id log top low width secret) = Some journal
-journal_of (advance journal request) = Some journal
-journal_of (child journal) = Some journal
-journal_of (cosign journal request) = Some journal
-journal_of (export journal) = Some journal
-journal_of (landmark journal) = Some journal
-journal_of (landmarks journal) = Some journal
-journal_of (light_cert journal index) = Some journal
-journal_of (trust_landmarks list active items) = None
-journal_of (cert journal index start end signatures) = Some journal
-journal_of (audit certificate store unix_time items kept) = None
-journal_of (quarrel kept) = None
-journal_of (drill number) = None
-journal_of (tile journal) = Some journal
-journal_of (tile_anew journal) = Some journal
-journal_of (switch journal) = Some journal
-journal_of (issue_list journal requests) = Some journal
-journal_of (light_certs journal first last) = Some journal
-journal_of (certs journal first last start end signatures) = Some journal
-journal_of (root items) = None
-journal_of (held kept) = None
-journal_of (monitor_init id) = None
-journal_of (monitor state watch request items) = None
-journal_of help = None
-journal_of version = None
+-- The journals that a command names, which are its first arguments.
+abbrev pub journals_of : CommandValue → List Text
+journals_of (member file) = []
+journals_of (show file) = []
+journals_of (verify certificate store unix_time) = []
+journals_of (init_log journal id active limit) = journal ∷ []
+journals_of (issue journal request) = journal ∷ []
+journals_of (checkpoint journal) = journal ∷ []
+journals_of (entries journal size) = journal ∷ []
+journals_of (entries_from journal first size) = journal ∷ []
+journals_of (consist journal old new) = journal ∷ []
+journals_of (subtree journal start end size) = journal ∷ []
+journals_of (keygen height width secret) = []
+journals_of (init_cosigner journal id log top low width secret) = journal ∷ []
+journals_of (advance journal request) = journal ∷ []
+journals_of (child journal) = journal ∷ []
+journals_of (cosign journal request) = journal ∷ []
+journals_of (export journal) = journal ∷ []
+journals_of (landmark journal) = journal ∷ []
+journals_of (landmarks journal) = journal ∷ []
+journals_of (light_cert journal index) = journal ∷ []
+journals_of (trust_landmarks list active items) = []
+journals_of (cert journal index start end signatures) = journal ∷ []
+journals_of (audit certificate store unix_time items kept) = []
+journals_of (quarrel kept) = []
+journals_of (drill number) = []
+journals_of (tile journal) = journal ∷ []
+journals_of (tile_anew journal) = journal ∷ []
+journals_of (switch journal) = journal ∷ []
+journals_of (issue_list journal requests) = journal ∷ []
+journals_of (light_certs journal first last) = journal ∷ []
+journals_of (certs journal first last start end signatures) = journal ∷ []
+journals_of (mirror_init journal id) = journal ∷ []
+journals_of (mirror_take journal items) = journal ∷ []
+journals_of (mirror_tile journal) = journal ∷ []
+journals_of (mirror_entries journal size) = journal ∷ []
+journals_of (mirror_advance cosigner mirror size) = cosigner ∷ mirror ∷ []
+journals_of (mirror_cosign cosigner mirror start end) = cosigner ∷ mirror ∷ []
+journals_of (root items) = []
+journals_of (held kept) = []
+journals_of (monitor_init id) = []
+journals_of (monitor state watch request items) = []
+journals_of help = []
+journals_of version = []

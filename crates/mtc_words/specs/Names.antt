@@ -14,6 +14,9 @@ use Rattle.mtc_words.specs.declared.name.Name.TheVariants.{Landmark, Landmarks, 
 use Rattle.mtc_words.specs.declared.name.Name.TheVariants.{TrustLandmarks, Cert, Audit, Drill}
 use Rattle.mtc_words.specs.declared.name.Name.TheVariants.{Tile, TileAnew, Switch}
 use Rattle.mtc_words.specs.declared.name.Name.TheVariants.{IssueList, LightCerts, Certs}
+use Rattle.mtc_words.specs.declared.name.Name.TheVariants.{MirrorInit, MirrorTake, MirrorTile}
+use Rattle.mtc_words.specs.declared.name.Name.TheVariants.{MirrorEntries, MirrorAdvance}
+use Rattle.mtc_words.specs.declared.name.Name.TheVariants.{MirrorCosign}
 use Rattle.mtc_words.specs.declared.name.Name.TheVariants.{Root, Held, MonitorInit, Monitor}
 use Rattle.mtc_words.specs.declared.name.Name.TheVariants.{Help, Version}
 
@@ -28,13 +31,24 @@ named_from_monitor word =
     else (if bytes_eq word (codes "version") then Some Version
     else None)))))
 
+-- The same for an argument that names none of those before the commands of mirrors.
+abbrev pub named_from_mirror : Text → Option Name
+named_from_mirror word =
+    if bytes_eq word (codes "mirror-init") then Some MirrorInit
+    else (if bytes_eq word (codes "mirror-take") then Some MirrorTake
+    else (if bytes_eq word (codes "mirror-tile") then Some MirrorTile
+    else (if bytes_eq word (codes "mirror-entries") then Some MirrorEntries
+    else (if bytes_eq word (codes "mirror-advance") then Some MirrorAdvance
+    else (if bytes_eq word (codes "mirror-cosign") then Some MirrorCosign
+    else named_from_monitor word)))))
+
 -- The same for an argument that names none of those before the commands on lists.
 abbrev pub named_from_list : Text → Option Name
 named_from_list word =
     if bytes_eq word (codes "issue-list") then Some IssueList
     else (if bytes_eq word (codes "light-certs") then Some LightCerts
     else (if bytes_eq word (codes "certs") then Some Certs
-    else named_from_monitor word))
+    else named_from_mirror word))
 
 -- The same for an argument that names none of those before the commands of landmarks.
 abbrev pub named_from_landmark : Text → Option Name
@@ -112,6 +126,12 @@ word_count Switch = 1
 word_count IssueList = 2
 word_count LightCerts = 3
 word_count Certs = 6
+word_count MirrorInit = 2
+word_count MirrorTake = 2
+word_count MirrorTile = 1
+word_count MirrorEntries = 2
+word_count MirrorAdvance = 3
+word_count MirrorCosign = 4
 word_count Root = 1
 word_count Held = 1
 word_count MonitorInit = 1
@@ -152,6 +172,12 @@ takes_journal Switch = true
 takes_journal IssueList = true
 takes_journal LightCerts = true
 takes_journal Certs = true
+takes_journal MirrorInit = true
+takes_journal MirrorTake = true
+takes_journal MirrorTile = true
+takes_journal MirrorEntries = true
+takes_journal MirrorAdvance = true
+takes_journal MirrorCosign = true
 takes_journal Root = false
 takes_journal Held = false
 takes_journal MonitorInit = false

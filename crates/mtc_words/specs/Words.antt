@@ -1,7 +1,8 @@
 -- The arguments of a command, and what they say: the first fault in the order of the tests, or the
 -- command.
-use Rattle.std.specs.Prelude.{ℕ, ◌+◌, ◌==◌, Bool, true, List, [], ◌∷◌, length, Option, Some, None}
-use Rattle.std.specs.Prelude.{Result, Ok, Err, ◌&&◌, slice_index_or, is_some, if◌then◌else◌}
+use Rattle.std.specs.Prelude.{◌≡◌, ℕ, ◌+◌, ◌==◌, Bool, true, false, List, [], ◌∷◌, length, Option}
+use Rattle.std.specs.Prelude.{Some, None, Result, Ok, Err, bytes_eq, slice_index_or, is_some}
+use Rattle.std.specs.Prelude.{if◌then◌else◌}
 use Rattle.byte_formats.specs.Types.{Text}
 use Rattle.byte_formats.specs.Readings.{◌>>=◌, blamed}
 use Rattle.tls_wire.specs.Anchors.{anchor_text}
@@ -20,19 +21,23 @@ use Rattle.mtc_words.specs.declared.name.Name.TheVariants.{Landmark, Landmarks, 
 use Rattle.mtc_words.specs.declared.name.Name.TheVariants.{TrustLandmarks, Cert, Audit, Drill}
 use Rattle.mtc_words.specs.declared.name.Name.TheVariants.{Tile, TileAnew, Switch}
 use Rattle.mtc_words.specs.declared.name.Name.TheVariants.{IssueList, LightCerts, Certs}
+use Rattle.mtc_words.specs.declared.name.Name.TheVariants.{MirrorInit, MirrorTake, MirrorTile}
+use Rattle.mtc_words.specs.declared.name.Name.TheVariants.{MirrorEntries, MirrorAdvance}
+use Rattle.mtc_words.specs.declared.name.Name.TheVariants.{MirrorCosign}
 use Rattle.mtc_words.specs.declared.name.Name.TheVariants.{Root, Held, MonitorInit, Monitor}
 use Rattle.mtc_words.specs.declared.name.Name.TheVariants.{Help, Version}
 use Rattle.mtc_words.specs.Commands.{CommandValue, member, show, verify, init_log, issue}
 use Rattle.mtc_words.specs.Commands.{checkpoint, entries, entries_from, consist, subtree, keygen}
-use Rattle.mtc_words.specs.Commands.{is_height}
+use Rattle.mtc_words.specs.Commands.{is_height, journals_of}
 use Rattle.mtc_words.specs.Commands.{is_width, is_time, is_active, is_limit, is_any}
 use Rattle.mtc_words.specs.Commands.{init_cosigner, advance, cosign, landmark, landmarks}
 use Rattle.mtc_words.specs.Commands.{export, light_cert, trust_landmarks, cert, audit, drill}
 use Rattle.mtc_words.specs.Commands.{quarrel, tile, tile_anew, switch, root, held, monitor_init}
-use Rattle.mtc_words.specs.Commands.{child, monitor}
+use Rattle.mtc_words.specs.Commands.{child, monitor, mirror_init, mirror_take, mirror_tile}
+use Rattle.mtc_words.specs.Commands.{mirror_entries, mirror_advance, mirror_cosign}
 use Rattle.mtc_words.specs.Commands.{issue_list, light_certs, certs}
 use Rattle.mtc_words.specs.Commands.{help, version}
-use Rattle.mtc_words.specs.Names.{named_command, word_count, takes_journal, is_tiles_name}
+use Rattle.mtc_words.specs.Names.{named_command, word_count, is_tiles_name}
 
 -- Empty, or begins with a hyphen.
 abbrev pub is_bad_word : Text → Bool
@@ -53,11 +58,31 @@ count_fault have want None = if have == want then None else Some (WrongCount hav
 unfoldable pub word_fault : ℕ → List Text → Option WordError
 word_fault want ws = count_fault (length ws) want (bad_word 1 ws)
 
--- The fault of a journal that has the name of a tile file.
-abbrev pub journal_fault : Name → List Text → Option WordError
-journal_fault name [] = None
-journal_fault name (w ∷ ws) =
-    if takes_journal name && is_tiles_name w then Some (TilesName 1) else None
+-- The number of the first journal with the name of a tile file, where k is that of the first one.
+abbrev pub tiles_word : ℕ → List Text → Option ℕ
+tiles_word k [] = None
+tiles_word k (journal ∷ rest) = if is_tiles_name journal then Some k else tiles_word (k + 1) rest
+
+-- The second journal is the first one.
+abbrev pub is_named_twice : List Text → Bool
+is_named_twice [] = false
+is_named_twice (only ∷ []) = false
+is_named_twice (first ∷ second ∷ rest) = bytes_eq first second
+
+-- The fault of a journal that is the first one, which is reported only if none has the name of a
+-- tile file.
+abbrev pub twice_fault : Bool → Option ℕ → Option WordError
+twice_fault twice (Some k) = Some (TilesName k)
+twice_fault twice None = if twice then Some (BadWord 1) else None
+
+-- The fault of the journals that a command names.
+abbrev pub journal_fault : List Text → Option WordError
+journal_fault journals = twice_fault (is_named_twice journals) (tiles_word 1 journals)
+
+-- No journal has the name of a tile file.
+abbrev pub HaveOwnNames : List Text → Type 0
+HaveOwnNames [] = Unit {0}
+HaveOwnNames (journal ∷ rest) = (is_tiles_name journal ≡ false) × HaveOwnNames rest
 
 -- The argument with this number, counted from 0.
 abbrev pub word : List Text → ℕ → Text
@@ -161,6 +186,21 @@ command_from Certs ws = do
   start ← number_word 4 is_any (word ws 3)
   end ← number_word 5 is_any (word ws 4)
   Ok (certs (word ws 0) first last start end (word ws 5))
+command_from MirrorInit ws = do
+  id ← id_word 2 (word ws 1)
+  Ok (mirror_init (word ws 0) id)
+command_from MirrorTake ws = Ok (mirror_take (word ws 0) (word ws 1))
+command_from MirrorTile ws = Ok (mirror_tile (word ws 0))
+command_from MirrorEntries ws = do
+  size ← number_word 2 is_any (word ws 1)
+  Ok (mirror_entries (word ws 0) size)
+command_from MirrorAdvance ws = do
+  size ← number_word 3 is_any (word ws 2)
+  Ok (mirror_advance (word ws 0) (word ws 1) size)
+command_from MirrorCosign ws = do
+  start ← number_word 3 is_any (word ws 2)
+  end ← number_word 4 is_any (word ws 3)
+  Ok (mirror_cosign (word ws 0) (word ws 1) start end)
 command_from Root ws = Ok (root (word ws 0))
 command_from Held ws = Ok (held (word ws 0))
 command_from MonitorInit ws = do
@@ -175,11 +215,12 @@ abbrev pub unless_fault : {A : Type 0} → Option WordError → Result A WordErr
 unless_fault (Some fault) wanted = Err fault
 unless_fault None wanted = wanted
 
--- What the arguments after a name say. The name of a journal is tested last.
+-- What the arguments after a name say. The names of journals are tested last.
 abbrev pub command_named : Option Name → List Text → Result CommandValue WordError
 command_named None ws = Err UnknownCommand
 command_named (Some name) ws = unless_fault (word_fault (word_count name) ws)
-    (command_from name ws >>= λ command. unless_fault (journal_fault name ws) (Ok command))
+    (command_from name ws >>= λ command.
+    unless_fault (journal_fault (journals_of command)) (Ok command))
 
 -- What arguments say.
 unfoldable pub command_of : List Text → Result CommandValue WordError

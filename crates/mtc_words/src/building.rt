@@ -328,6 +328,44 @@ fn monitor<'a>(words: &'a [String]) -> Result<Command<'a>, WordError>
     ))
 }
 
+fn mirror_init<'a>(alloc: Global, words: &'a [String]) -> Result<Command<'a>, WordError>
+    requires { length words.now ≡ word_count Name.MirrorInit }
+    ensures exact { Answers WordError.Memory
+        (command_from Name.MirrorInit (map string_bytes words.now)) (said result) }
+    ensures range { IfOk result (λ command. IsInRange (command_value command)) }
+{
+    let log = id(alloc, words, 1)?;
+    Ok(Command::MirrorInit(text(words, 0), log))
+}
+
+fn mirror_entries<'a>(words: &'a [String]) -> Result<Command<'a>, WordError>
+    requires { length words.now ≡ word_count Name.MirrorEntries }
+    ensures exact { said result ≡ command_from Name.MirrorEntries (map string_bytes words.now) }
+    ensures range { IfOk result (λ command. IsInRange (command_value command)) }
+{
+    let size = number(words, 1)?;
+    Ok(Command::MirrorEntries(text(words, 0), size))
+}
+
+fn mirror_advance<'a>(words: &'a [String]) -> Result<Command<'a>, WordError>
+    requires { length words.now ≡ word_count Name.MirrorAdvance }
+    ensures exact { said result ≡ command_from Name.MirrorAdvance (map string_bytes words.now) }
+    ensures range { IfOk result (λ command. IsInRange (command_value command)) }
+{
+    let size = number(words, 2)?;
+    Ok(Command::MirrorAdvance(text(words, 0), text(words, 1), size))
+}
+
+fn mirror_cosign<'a>(words: &'a [String]) -> Result<Command<'a>, WordError>
+    requires { length words.now ≡ word_count Name.MirrorCosign }
+    ensures exact { said result ≡ command_from Name.MirrorCosign (map string_bytes words.now) }
+    ensures range { IfOk result (λ command. IsInRange (command_value command)) }
+{
+    let start = number(words, 2)?;
+    let end = number(words, 3)?;
+    Ok(Command::MirrorCosign(text(words, 0), text(words, 1), start, end))
+}
+
 // The command of a name whose first argument is a journal.
 fn build_on_journal<'a>(
     alloc: Global,
@@ -364,6 +402,12 @@ fn build_on_journal<'a>(
         Name::IssueList => Ok(Command::IssueList(text(words, 0), text(words, 1))),
         Name::LightCerts => light_certs(words),
         Name::Certs => certs(words),
+        Name::MirrorInit => mirror_init(alloc, words),
+        Name::MirrorTake => Ok(Command::MirrorTake(text(words, 0), text(words, 1))),
+        Name::MirrorTile => Ok(Command::MirrorTile(text(words, 0))),
+        Name::MirrorEntries => mirror_entries(words),
+        Name::MirrorAdvance => mirror_advance(words),
+        Name::MirrorCosign => mirror_cosign(words),
         _ => unreachable!(),
     }
 }

@@ -3,8 +3,8 @@
 use tls_wire::AnchorId;
 
 /// A command with its arguments, in their order: the name of a file is a text, a number a `u64`,
-/// and an id an anchor id. J is the journal of a log, S that of a cosigner; no journal's name ends
-/// in `.tiles`.
+/// and an id an anchor id. J is the journal of a log, S that of a cosigner, M that of a mirror; no
+/// journal's name ends in `.tiles`, and S isn't M.
 #[derive(Debug, Drop)]
 pub enum Command<'a> {
     /// `member FILE`: evaluate the inclusion path that the file holds.
@@ -86,6 +86,20 @@ pub enum Command<'a> {
     /// `certs J FIRST LAST START END SIGNATURES`: write the certificates of the entries from FIRST
     /// up to LAST, without it, in one subtree and with the cosigners' signatures, as PEM.
     Certs(&'a str, u64, u64, u64, u64, &'a str),
+    /// `mirror-init M LOGID`: make the journal of a mirror of the log of LOGID.
+    MirrorInit(&'a str, AnchorId),
+    /// `mirror-take M ENTRIES`: add to the mirror the next entries of its log, of which a file has
+    /// all, with their keys.
+    MirrorTake(&'a str, &'a str),
+    /// `mirror-tile M`: store the tiles of the mirror that are full and not stored.
+    MirrorTile(&'a str),
+    /// `mirror-entries M SIZE`: write the first entries of the mirror with their keys.
+    MirrorEntries(&'a str, u64),
+    /// `mirror-advance S M SIZE`: have the cosigner hold the root of the first entries of the
+    /// mirror.
+    MirrorAdvance(&'a str, &'a str, u64),
+    /// `mirror-cosign S M START END`: have the cosigner sign a subtree of the mirror.
+    MirrorCosign(&'a str, &'a str, u64, u64),
     /// `root ENTRIES`: print the number of the entries of a file and their tree hash.
     Root(&'a str),
     /// `held EXPORT`: print what an export says of its cosigner.

@@ -11,7 +11,8 @@ pub enum WordError {
     NoCommand,
     /// The first argument is no command.
     UnknownCommand,
-    /// The argument of this number is empty, or begins with a hyphen.
+    /// The argument of this number is empty, or begins with a hyphen; or it is a journal, and so is
+    /// the next one, of the same name.
     BadWord(usize),
     /// There are more or fewer arguments after the command than it wants.
     WrongCount { have: usize, want: usize },

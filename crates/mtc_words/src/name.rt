@@ -2,8 +2,8 @@
 
 ghost use Rattle.std.specs.Prelude.{◌≡◌};
 ghost use Rattle.mtc_words.specs.Names.{named_command, named_from_cosigner, named_from_landmark};
-ghost use Rattle.mtc_words.specs.Names.{named_from_list, named_from_monitor, takes_journal};
-ghost use Rattle.mtc_words.specs.Names.{word_count};
+ghost use Rattle.mtc_words.specs.Names.{named_from_list, named_from_mirror, named_from_monitor};
+ghost use Rattle.mtc_words.specs.Names.{takes_journal, word_count};
 
 /// The name of a command.
 #[derive(Clone, Copy)]
@@ -39,6 +39,12 @@ pub enum Name {
     IssueList,
     LightCerts,
     Certs,
+    MirrorInit,
+    MirrorTake,
+    MirrorTile,
+    MirrorEntries,
+    MirrorAdvance,
+    MirrorCosign,
     Root,
     Held,
     MonitorInit,
@@ -111,6 +117,21 @@ fn read_list_name(word: &str) -> Option<Name>
         "issue-list" => Some(Name::IssueList),
         "light-certs" => Some(Name::LightCerts),
         "certs" => Some(Name::Certs),
+        _ => read_mirror_name(word),
+    }
+}
+
+// The same from the commands of mirrors on.
+fn read_mirror_name(word: &str) -> Option<Name>
+    ensures { result ≡ named_from_mirror word.now }
+{
+    match word {
+        "mirror-init" => Some(Name::MirrorInit),
+        "mirror-take" => Some(Name::MirrorTake),
+        "mirror-tile" => Some(Name::MirrorTile),
+        "mirror-entries" => Some(Name::MirrorEntries),
+        "mirror-advance" => Some(Name::MirrorAdvance),
+        "mirror-cosign" => Some(Name::MirrorCosign),
         _ => read_monitor_name(word),
     }
 }
@@ -138,13 +159,13 @@ pub fn wanted_count(name: Name) -> usize
         Name::Help | Name::Version => 0,
         Name::Member | Name::Show | Name::Checkpoint => 1,
         Name::Export | Name::Landmark | Name::Landmarks | Name::Drill | Name::Tile => 1,
-        Name::TileAnew | Name::Switch | Name::Child => 1,
+        Name::TileAnew | Name::Switch | Name::Child | Name::MirrorTile => 1,
         Name::Quarrel | Name::Root | Name::Held | Name::MonitorInit => 1,
         Name::Issue | Name::Entries | Name::Advance | Name::Cosign | Name::LightCert => 2,
-        Name::IssueList => 2,
+        Name::IssueList | Name::MirrorInit | Name::MirrorTake | Name::MirrorEntries => 2,
         Name::Verify | Name::EntriesFrom | Name::Consist | Name::LightCerts => 3,
-        Name::Keygen | Name::TrustLandmarks => 3,
-        Name::InitLog | Name::Subtree | Name::Monitor => 4,
+        Name::Keygen | Name::TrustLandmarks | Name::MirrorAdvance => 3,
+        Name::InitLog | Name::Subtree | Name::Monitor | Name::MirrorCosign => 4,
         Name::Cert | Name::Audit => 5,
         Name::InitCosigner | Name::Certs => 6,
         Name::InitCosigner2 => 7,
@@ -166,5 +187,7 @@ pub fn takes_journal(name: Name) -> bool
         Name::IssueList | Name::LightCerts | Name::Certs => true,
         Name::InitCosigner | Name::InitCosigner2 | Name::Advance | Name::Child => true,
         Name::Cosign | Name::Export => true,
+        Name::MirrorInit | Name::MirrorTake | Name::MirrorTile | Name::MirrorEntries => true,
+        Name::MirrorAdvance | Name::MirrorCosign => true,
     }
 }

@@ -10,6 +10,9 @@ use Rattle.mtc_words.specs.declared.name.Name.TheVariants.{Landmark, Landmarks, 
 use Rattle.mtc_words.specs.declared.name.Name.TheVariants.{TrustLandmarks, Cert, Audit, Drill}
 use Rattle.mtc_words.specs.declared.name.Name.TheVariants.{Switch, Tile, TileAnew}
 use Rattle.mtc_words.specs.declared.name.Name.TheVariants.{Certs, IssueList, LightCerts}
+use Rattle.mtc_words.specs.declared.name.Name.TheVariants.{MirrorInit, MirrorTake, MirrorTile}
+use Rattle.mtc_words.specs.declared.name.Name.TheVariants.{MirrorEntries, MirrorAdvance}
+use Rattle.mtc_words.specs.declared.name.Name.TheVariants.{MirrorCosign}
 use Rattle.mtc_words.specs.declared.name.Name.TheVariants.{Root, Held, MonitorInit, Monitor}
 use Rattle.mtc_words.specs.declared.name.Name.TheVariants.{Help, Version}
 use Rattle.mtc_help.specs.HelpOutcome.{help_text}
@@ -53,12 +56,18 @@ returns-clause-all c = place_of
     place_of TrustLandmarks = (25, refl)
     place_of Cert = (26, refl)
     place_of Certs = (27, refl)
-    place_of Audit = (28, refl)
-    place_of Quarrel = (29, refl)
-    place_of Drill = (30, refl)
-    place_of Root = (31, refl)
-    place_of Held = (32, refl)
-    place_of MonitorInit = (33, refl)
-    place_of Monitor = (34, refl)
-    place_of Help = (35, refl)
-    place_of Version = (36, refl)
+    place_of MirrorInit = (28, refl)
+    place_of MirrorTake = (29, refl)
+    place_of MirrorTile = (30, refl)
+    place_of MirrorEntries = (31, refl)
+    place_of MirrorAdvance = (32, refl)
+    place_of MirrorCosign = (33, refl)
+    place_of Audit = (34, refl)
+    place_of Quarrel = (35, refl)
+    place_of Drill = (36, refl)
+    place_of Root = (37, refl)
+    place_of Held = (38, refl)
+    place_of MonitorInit = (39, refl)
+    place_of Monitor = (40, refl)
+    place_of Help = (41, refl)
+    place_of Version = (42, refl)
