@@ -5,7 +5,9 @@ pub mod Watching
 mod Working
 pub mod Logs
 pub mod Cosigners
+pub mod Mirrors
 pub mod Planned
 pub mod Names
 pub mod Heard
+pub mod HeardOfBoth
 pub mod Streams

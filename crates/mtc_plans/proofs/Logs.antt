@@ -31,7 +31,7 @@ use Rattle.mtc_plans.specs.Steps.{small_file}
 use Rattle.mtc_plans.proofs.Texts.{first_read, reported_on}
 use Rattle.mtc_plans.proofs.Working.{rebuilt_same, work_same}
 
-missing_same : (journal : List ℕ) (tile : Option (ℕ × ℕ)) (one other : Outcome) → one ≡ other
+pub missing_same : (journal : List ℕ) (tile : Option (ℕ × ℕ)) (one other : Outcome) → one ≡ other
     → unless_missing journal tile one
     ≡ unless_lacking (tiles_name journal) (missing_text tile) other
 missing_same journal None one other same = same

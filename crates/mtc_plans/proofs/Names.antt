@@ -6,7 +6,7 @@ use Rattle.mtc_room.proofs.Places.{has_end}
 use Rattle.mtc_room.specs.Places.{place_of}
 use Rattle.mtc_words.proofs.Journals.{no_tiles_name}
 use Rattle.mtc_words.specs.Commands.{CommandValue, member}
-use Rattle.mtc_words.specs.Commands.{journal_of}
+use Rattle.mtc_words.specs.Commands.{journals_of}
 use Rattle.mtc_words.specs.Names.{is_tiles_name}
 use Rattle.mtc_command.proofs.Beside.{plain_end}
 use Rattle.mtc_command.specs.Answers.{tiles_name}
@@ -14,11 +14,11 @@ use Rattle.mtc_command.specs.Served.{IsOther}
 use Rattle.command_plans.specs.Names.{beside_names, journal_names, made_names, only_read_names}
 use Rattle.command_plans.specs.Plans.{Journal, makes, opens}
 use Rattle.mtc_plans.specs.Commands.{plan_of}
-use Rattle.mtc_plans.specs.PartyKinds.{cosigner, log, rebuilt_log, party_kinds}
+use Rattle.mtc_plans.specs.PartyKinds.{cosigner, log, mirror, rebuilt_log, party_kinds}
 use Rattle.mtc_plans.specs.Words.{journal_made_by, only_read_by}
 
 pub journals_named : (h : HashFunction) (command : CommandValue)
-    → journal_names (plan_of h command).journals ≡ option_to_list (journal_of command)
+    → journal_names (plan_of h command).journals ≡ journals_of command
 journals_named h (member file) = refl
 journals_named h other = refl
 
@@ -47,6 +47,8 @@ module _ (leads_to : Text → Text) where
   no_journal_beside h (opens log beside journal ∷ rest) name own =
       (no_tiles_place leads_to journal name own, no_journal_beside h rest name own)
   no_journal_beside h (opens rebuilt_log beside journal ∷ rest) name own =
+      (no_tiles_place leads_to journal name own, no_journal_beside h rest name own)
+  no_journal_beside h (opens mirror beside journal ∷ rest) name own =
       (no_tiles_place leads_to journal name own, no_journal_beside h rest name own)
   no_journal_beside h (opens cosigner beside journal ∷ rest) name own =
       no_journal_beside h rest name own

@@ -9,6 +9,8 @@ use Rattle.mtc_words.specs.Commands.{landmarks}
 use Rattle.mtc_words.specs.Commands.{light_cert, trust_landmarks, cert, audit, drill, tile}
 use Rattle.mtc_words.specs.Commands.{certs, issue_list, light_certs}
 use Rattle.mtc_words.specs.Commands.{switch, tile_anew}
+use Rattle.mtc_words.specs.Commands.{mirror_advance, mirror_cosign, mirror_entries, mirror_init}
+use Rattle.mtc_words.specs.Commands.{mirror_take, mirror_tile}
 use Rattle.mtc_words.specs.Commands.{quarrel, root, held, monitor_init, monitor}
 use Rattle.mtc_words.specs.Commands.{help, version}
 use Rattle.mtc_command.specs.Steps.{Files}
@@ -26,6 +28,9 @@ use Rattle.mtc_plans.proofs.Cosigners.{advance_plans, child_plans, cosign_plans,
 use Rattle.mtc_plans.proofs.Cosigners.{init_cosigner_plans}
 use Rattle.mtc_plans.proofs.Logs.{cert_plans, certs_plans, init_log_plans, issue_list_plans}
 use Rattle.mtc_plans.proofs.Logs.{issue_plans, rebuild_plans, work_plans}
+use Rattle.mtc_plans.proofs.Mirrors.{mirror_advance_plans, mirror_cosign_plans}
+use Rattle.mtc_plans.proofs.Mirrors.{mirror_entries_plans, mirror_init_plans, mirror_take_plans}
+use Rattle.mtc_plans.proofs.Mirrors.{mirror_tile_plans}
 use Rattle.mtc_plans.proofs.Reading.{drill_plans, keygen_plans, member_plans, show_plans}
 use Rattle.mtc_plans.proofs.Reading.{trust_plans, verify_plans}
 use Rattle.mtc_plans.proofs.Watching.{held_plans, monitor_init_plans, monitor_plans, root_plans}
@@ -78,6 +83,14 @@ module _ (h : HashFunction) where
       work_plans h files only_reads journal (LightCerts first last)
   outcome_planned (certs journal first last start end file) files =
       certs_plans h files journal first last start end file
+  outcome_planned (mirror_init journal id) files = mirror_init_plans h files journal id
+  outcome_planned (mirror_take journal items) files = mirror_take_plans h files journal items
+  outcome_planned (mirror_tile journal) files = mirror_tile_plans h files journal
+  outcome_planned (mirror_entries journal size) files = mirror_entries_plans h files journal size
+  outcome_planned (mirror_advance signer journal size) files =
+      mirror_advance_plans h files signer journal size
+  outcome_planned (mirror_cosign signer journal start end) files =
+      mirror_cosign_plans h files signer journal start end
   outcome_planned (root items) files = root_plans (party_kinds h) h items files
   outcome_planned (held kept) files = held_plans (party_kinds h) h kept files
   outcome_planned (monitor_init id) files = monitor_init_plans (party_kinds h) h id files

@@ -1,7 +1,8 @@
 -- What commands do with their journals that write while they read.
-use Rattle.std.proofs.Common.{◌≡◌, None, refl, subst, sym, true≢false}
+use Rattle.std.proofs.Common.{◌≡◌, ℕ, None, refl, subst, sym, true≢false}
 use Rattle.byte_formats.specs.Types.{HashFunction, Text}
-use Rattle.mtc_words.specs.Commands.{entries, entries_from, export}
+use Rattle.mirror_core.specs.Openings.{FoundMirror}
+use Rattle.mtc_words.specs.Commands.{entries, entries_from, export, mirror_entries}
 use Rattle.issuance_log.specs.Openings.{FoundLog}
 use Rattle.mtc_authority.specs.declared.work.Work.{Work}
 use Rattle.mtc_authority.specs.declared.work.Work.TheVariants.{Entries, EntriesFrom}
@@ -15,6 +16,7 @@ use Rattle.mtc_plans.specs.Commands.{planned_outcome}
 use Rattle.mtc_plans.specs.CosignerPlans.{export_plan, export_reported}
 use Rattle.mtc_plans.specs.LogPlans.{work_plan}
 use Rattle.mtc_plans.specs.LogWork.{entries_from_judged, entries_judged, work_reported}
+use Rattle.mtc_plans.specs.MirrorPlans.{mirror_entries_judged, mirror_entries_plan}
 use Rattle.mtc_plans.specs.PartyKinds.{party_kinds}
 use Rattle.mtc_plans.specs.Steps.{StepReport, deed_on}
 use Rattle.mtc_plans.specs.Streams.{AllAddNone, StreamsAddNone, StreamsMakeNone}
@@ -48,6 +50,20 @@ module _ (h : HashFunction) (files : Files) where
       subst (λ (d : Deed plan.journals). AllAddNone (journals_did plan.journals founds d.does)) same
       (tt, tt))
 
+  mirror_entries_add_none : (journal : Text) (size : ℕ)
+      → AllAddNone (planned_outcome h (mirror_entries journal size) files).journals
+  mirror_entries_add_none journal size =
+      let plan = mirror_entries_plan h journal size in
+      let reported : FoundMirror → StepReport =
+      λ found. (mirror_entries_judged size found.state, None) in
+      came_to_none plan files (outcome_of plan files) (outcomes_come (party_kinds h) plan files)
+      (λ reads say founds is.
+      let deed : Deed plan.journals = deed_on (reported founds.0) in
+      let same : deed ≡ say founds = same_work say
+      (λ found. deed_on (reported found.0)) founds (works say) refl is in
+      subst (λ (d : Deed plan.journals). AllAddNone (journals_did plan.journals founds d.does)) same
+      (tt, tt))
+
   -- a work on a log that only judges it
   work_adds_none : (journal : Text) (work : Work) (judged : FoundLog → Judged)
       → ((found : FoundLog) → work_reported h work found ≡ (judged found, None))
@@ -70,10 +86,13 @@ streams_add_none h (entries_from journal first size) files may =
     work_adds_none h files journal (EntriesFrom first size)
     (λ found. entries_from_judged first size found.state) (λ found. refl)
 streams_add_none h (export journal) files may = export_adds_none h files journal
+streams_add_none h (mirror_entries journal size) files may =
+    mirror_entries_add_none h files journal size
 streams_add_none h other files may = absurd (true≢false (sym may))
 
 pub streams_make_none : StreamsMakeNone
 streams_make_none h (entries journal size) may = refl
 streams_make_none h (entries_from journal first size) may = refl
 streams_make_none h (export journal) may = refl
+streams_make_none h (mirror_entries journal size) may = refl
 streams_make_none h other may = absurd (true≢false (sym may))

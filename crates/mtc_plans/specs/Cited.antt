@@ -1,5 +1,6 @@
 -- The outcomes that the contracts of the commands cite: one line for each. Each stands in a file of
--- its own, in mtc_relying, mtc_authority, mtc_cosigner, mtc_monitor, mtc_drill or mtc_help.
+-- its own, in mtc_relying, mtc_authority, mtc_cosigner, mtc_mirror, mtc_mirror_steps, mtc_monitor,
+-- mtc_drill or mtc_help.
 use Rattle.byte_formats.specs.Types.{HashFunction, Text}
 use Rattle.mtc_words.specs.Commands.{CommandValue, member, show, verify, init_log, issue}
 use Rattle.mtc_words.specs.Commands.{checkpoint, entries, entries_from, consist, subtree}
@@ -9,6 +10,8 @@ use Rattle.mtc_words.specs.Commands.{landmarks}
 use Rattle.mtc_words.specs.Commands.{light_cert, trust_landmarks, cert, audit, drill, tile}
 use Rattle.mtc_words.specs.Commands.{certs, issue_list, light_certs}
 use Rattle.mtc_words.specs.Commands.{switch, tile_anew}
+use Rattle.mtc_words.specs.Commands.{mirror_advance, mirror_cosign, mirror_entries, mirror_init}
+use Rattle.mtc_words.specs.Commands.{mirror_take, mirror_tile}
 use Rattle.mtc_words.specs.Commands.{quarrel, root, held, monitor_init, monitor}
 use Rattle.mtc_words.specs.Commands.{help, version}
 use Rattle.mtc_command.specs.Answers.{tiles_name}
@@ -31,6 +34,10 @@ use Rattle.mtc_authority.specs.declared.work.Work.TheVariants.{Landmark, Landmar
 use Rattle.mtc_authority.specs.declared.work.Work.TheVariants.{LightCerts}
 use Rattle.mtc_authority.specs.ListCommands.{certs_outcome, issue_list_outcome}
 use Rattle.mtc_authority.specs.TileOutcome.{rebuilt_outcome}
+use Rattle.mtc_mirror.specs.Commands.{mirror_entries_outcome, mirror_take_outcome}
+use Rattle.mtc_mirror.specs.Commands.{mirror_tile_outcome}
+use Rattle.mtc_mirror.specs.MirrorOutcomes.{mirror_init_outcome}
+use Rattle.mtc_mirror_steps.specs.StepOutcomes.{mirror_advance_outcome, mirror_cosign_outcome}
 use Rattle.mtc_relying.specs.AuditOutcome.{audit_outcome}
 use Rattle.mtc_relying.specs.QuarrelOutcome.{quarrel_outcome}
 use Rattle.mtc_relying.specs.TrustOutcome.{trust_outcome}
@@ -85,6 +92,14 @@ command_outcome h (light_certs journal first last) =
     outcome_on_log h journal (LightCerts first last)
 command_outcome h (certs journal first last start end file) =
     certs_outcome h journal first last start end file
+command_outcome h (mirror_init journal id) = mirror_init_outcome journal id
+command_outcome h (mirror_take journal items) = mirror_take_outcome h journal items
+command_outcome h (mirror_tile journal) = mirror_tile_outcome h journal
+command_outcome h (mirror_entries journal size) = mirror_entries_outcome h journal size
+command_outcome h (mirror_advance signer journal size) =
+    mirror_advance_outcome h signer journal size
+command_outcome h (mirror_cosign signer journal start end) =
+    mirror_cosign_outcome h signer journal start end
 command_outcome h (root items) = root_outcome h items
 command_outcome h (held kept) = held_outcome h kept
 command_outcome h (monitor_init id) = λ files. monitor_init_outcome id

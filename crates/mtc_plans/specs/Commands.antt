@@ -8,6 +8,8 @@ use Rattle.mtc_words.specs.Commands.{landmarks}
 use Rattle.mtc_words.specs.Commands.{light_cert, trust_landmarks, cert, audit, drill, tile}
 use Rattle.mtc_words.specs.Commands.{certs, issue_list, light_certs}
 use Rattle.mtc_words.specs.Commands.{switch, tile_anew}
+use Rattle.mtc_words.specs.Commands.{mirror_advance, mirror_cosign, mirror_entries, mirror_init}
+use Rattle.mtc_words.specs.Commands.{mirror_take, mirror_tile}
 use Rattle.mtc_words.specs.Commands.{quarrel, root, held, monitor_init, monitor}
 use Rattle.mtc_words.specs.Commands.{help, version}
 use Rattle.mtc_command.specs.Steps.{Files, Outcome}
@@ -24,6 +26,9 @@ use Rattle.mtc_plans.specs.CosignerPlans.{init_cosigner_plan}
 use Rattle.mtc_plans.specs.HelpPlans.{help_plan, version_plan}
 use Rattle.mtc_plans.specs.LogPlans.{cert_plan, certs_plan, init_log_plan, issue_list_plan}
 use Rattle.mtc_plans.specs.LogPlans.{issue_plan, rebuild_plan, work_plan}
+use Rattle.mtc_plans.specs.MirrorPlans.{mirror_advance_plan, mirror_cosign_plan}
+use Rattle.mtc_plans.specs.MirrorPlans.{mirror_entries_plan, mirror_init_plan, mirror_take_plan}
+use Rattle.mtc_plans.specs.MirrorPlans.{mirror_tile_plan}
 use Rattle.mtc_plans.specs.PartyKinds.{party_kinds}
 use Rattle.mtc_plans.specs.ReadPlans.{drill_plan, keygen_plan, member_plan, show_plan}
 use Rattle.mtc_plans.specs.ReadPlans.{trust_plan, verify_plan}
@@ -67,6 +72,12 @@ plan_of h (light_certs journal first last) =
     work_plan h only_reads journal (LightCerts first last)
 plan_of h (certs journal first last start end file) =
     certs_plan h journal first last start end file
+plan_of h (mirror_init journal id) = mirror_init_plan h journal id
+plan_of h (mirror_take journal items) = mirror_take_plan h journal items
+plan_of h (mirror_tile journal) = mirror_tile_plan h journal
+plan_of h (mirror_entries journal size) = mirror_entries_plan h journal size
+plan_of h (mirror_advance signer journal size) = mirror_advance_plan h signer journal size
+plan_of h (mirror_cosign signer journal start end) = mirror_cosign_plan h signer journal start end
 plan_of h (root items) = root_plan h items
 plan_of h (held kept) = held_plan h kept
 plan_of h (monitor_init id) = monitor_init_plan id

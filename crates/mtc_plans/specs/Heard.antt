@@ -1,5 +1,6 @@
 -- What of its files and journals follows from the text of a command: of `issue`, `issue-list` and
--- `switch`, and of those that open a cosigner's journal or are given a secret file.
+-- `switch`, of those that open a cosigner's journal or are given a secret file, and of those by
+-- which a mirror has a cosigner take a step.
 use Rattle.std.specs.Prelude.{◌≡◌, ◌≤◌, ℕ, false, List, [], ◌∷◌, length, Option, None, Ok}
 use Rattle.std.specs.Prelude.{Some, option_map}
 use Rattle.byte_formats.specs.Types.{HashFunction, Text}
@@ -19,8 +20,11 @@ use Rattle.issuance_log.specs.Folds.{view_in}
 use Rattle.issuance_log.specs.Openings.{FoundLog, log_read}
 use Rattle.issuance_log.specs.Records.{switch_record}
 use Rattle.issuance_log.specs.Refusals.{add_refusal, batch_refusal, switch_refusal}
+use Rattle.mirror_core.specs.Openings.{FoundMirror, mirror_read}
+use Rattle.mirror_cosigner.specs.Refusals.{mirror_advance_refusal, mirror_cosign_refusal}
+use Rattle.mirror_cosigner.specs.Requests.{advance_by_mirror, subtree_by_mirror}
 use Rattle.mtc_words.specs.Commands.{advance, child, cosign, export, init_cosigner, issue}
-use Rattle.mtc_words.specs.Commands.{issue_list, keygen, switch}
+use Rattle.mtc_words.specs.Commands.{issue_list, keygen, mirror_advance, mirror_cosign, switch}
 use Rattle.mtc_command.specs.Answers.{Reply, said}
 use Rattle.mtc_command.specs.Made.{appended, reads, started}
 use Rattle.mtc_command.specs.Steps.{Files, Outcome}
@@ -193,6 +197,58 @@ pub record ExportsSo (h : HashFunction) (files : Files) (journal : Text) (reply 
 abbrev pub ExportedTextsAreOfRecords : Type 0
 ExportedTextsAreOfRecords = (h : HashFunction) (files : Files) (journal : Text)
     → OfSaid (planned_outcome h (export journal) files) (ExportsSo h files journal)
+
+-- ---- the journals of a cosigner and of a mirror
+
+-- A cosigner was found in the first one, and a mirror in the second one.
+pub record FindsBoth (h : HashFunction) (files : Files) (signer journal : Text) : Type 0 where
+  pub held : Text
+  pub there : files signer ≡ Some held
+  pub found : FoundCosigner
+  pub is_cosigner : cosigner_read h held ≡ Ok found
+  pub mirror_held : Text
+  pub mirror_there : files journal ≡ Some mirror_held
+  pub mirrored : FoundMirror
+  pub is_mirror : mirror_read h mirror_held ≡ Ok mirrored
+
+-- Both were found, the mirror's request is refused by neither, and an Advance record of it is added
+-- to the cosigner's journal alone. The text is the size that was asked for.
+pub record MirrorAdvancesSo (h : HashFunction) (files : Files) (signer journal : Text) (size : ℕ)
+    (reply : Reply) : Type 0 where
+  pub both : FindsBoth h files signer journal
+  pub fits : mirror_advance_refusal h both.mirrored.state both.found.state false
+      (end_offset both.found.records) size ≡ None
+  pub did : let request = advance_by_mirror h both.mirrored.state both.found.state.held size in
+      (planned_outcome h (mirror_advance signer journal size) files).journals
+      ≡ appended both.found.records (advance_record request.size request.root request.proof)
+      ∷ (reads both.mirrored.records ∷ [])
+  pub reply_is : reply ≡ said Done (advanced_text size)
+
+-- So it is of each text that `mirror-advance` may say.
+abbrev pub MirrorAdvancedTextsAreOfRecords : Type 0
+MirrorAdvancedTextsAreOfRecords = (h : HashFunction) (files : Files) (signer journal : Text)
+    (size : ℕ) → OfSaid (planned_outcome h (mirror_advance signer journal size) files)
+    (MirrorAdvancesSo h files signer journal size)
+
+-- Both were found, the mirror's request is refused by neither, and a Sign record of it is added to
+-- the cosigner's journal alone. The text is the signature by the next one-time key.
+pub record MirrorCosignsSo (h : HashFunction) (files : Files) (signer journal : Text)
+    (start end : ℕ) (reply : Reply) : Type 0 where
+  pub both : FindsBoth h files signer journal
+  pub fits : mirror_cosign_refusal h both.mirrored.state both.found.state false
+      (end_offset both.found.records) start end ≡ None
+  pub did : let request = subtree_by_mirror h both.mirrored.state both.found.state.held start end in
+      (planned_outcome h (mirror_cosign signer journal start end) files).journals
+      ≡ appended both.found.records (sign_record both.found.state.key.next request.start
+      request.end request.hash request.proof) ∷ (reads both.mirrored.records ∷ [])
+  pub reply_is : reply ≡ said Done (cosigned_text both.found.state
+      (subtree_by_mirror h both.mirrored.state both.found.state.held start end))
+
+-- So it is of each text that `mirror-cosign` may say.
+abbrev pub MirrorCosignedTextsAreOfRecords : Type 0
+MirrorCosignedTextsAreOfRecords = (h : HashFunction) (files : Files) (signer journal : Text)
+    (start end : ℕ) → OfSaid (planned_outcome h (mirror_cosign signer journal start end) files)
+    (MirrorCosignsSo h files signer journal start end)
 
 -- ---- a secret file
 

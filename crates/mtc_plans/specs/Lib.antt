@@ -7,6 +7,7 @@ pub mod LogWork
 pub mod HelpPlans
 pub mod LogPlans
 pub mod CosignerPlans
+pub mod MirrorPlans
 pub mod Commands
 pub mod Words
 pub mod Cited

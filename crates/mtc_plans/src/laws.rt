@@ -3,7 +3,7 @@
 ghost use Rattle.std.specs.Prelude.{◌≡◌, false, List};
 ghost use Rattle.std.specs.Option.{option_to_list};
 ghost use Rattle.byte_formats.specs.Types.{HashFunction, Text};
-ghost use Rattle.mtc_words.specs.Commands.{CommandValue, journal_of};
+ghost use Rattle.mtc_words.specs.Commands.{CommandValue, journals_of};
 ghost use Rattle.mtc_words.specs.Names.{is_tiles_name};
 ghost use Rattle.mtc_command.specs.Served.{IsOther};
 ghost use Rattle.mtc_command.specs.Steps.{Files};
@@ -18,7 +18,9 @@ ghost use Rattle.mtc_plans.specs.Heard.{AdvancedTextsAreOfRecords, BegunTextsAre
 ghost use Rattle.mtc_plans.specs.Heard.{ChildTextsAreOfRecords, CosignedTextsAreOfRecords};
 ghost use Rattle.mtc_plans.specs.Heard.{ExportedTextsAreOfRecords};
 ghost use Rattle.mtc_plans.specs.Heard.{IssuedListsAreOfRecords, IssuedTextsAreOfRecords};
-ghost use Rattle.mtc_plans.specs.Heard.{KeyTextsAreOfSecrets, SwitchedTextsAreOfRecords};
+ghost use Rattle.mtc_plans.specs.Heard.{KeyTextsAreOfSecrets, MirrorAdvancedTextsAreOfRecords};
+ghost use Rattle.mtc_plans.specs.Heard.{MirrorCosignedTextsAreOfRecords};
+ghost use Rattle.mtc_plans.specs.Heard.{SwitchedTextsAreOfRecords};
 ghost use Rattle.mtc_plans.specs.PartyKinds.{party_kinds};
 ghost use Rattle.mtc_plans.specs.Streams.{StreamsAddNone, StreamsMakeNone};
 ghost use Rattle.mtc_plans.specs.Words.{journal_made_by, only_read_by};
@@ -29,13 +31,14 @@ pub fn law_commands_have_plans()
         → command_outcome h command files ≡ planned_outcome h command files }
 {}
 
-/// The journals of a command's plan are those that its arguments name, and it makes one if the
-/// command begins a log or a cosigner. A file beside a journal of any plan is one of tiles, so a
-/// journal whose name isn't that of a tile file has another place than these. `tile` and
-/// `tile-anew` alone write such a file: every other command only reads the one beside its journal.
+/// The journals of a command's plan are those that its arguments name, in their order, and it makes
+/// one if the command begins a log, a cosigner or a mirror. A file beside a journal of any plan is
+/// one of tiles, so a journal whose name isn't that of a tile file has another place than these.
+/// `tile`, `tile-anew` and `mirror-tile` alone write such a file: every other command only reads
+/// the one beside its journal.
 pub fn law_plans_name_their_files()
     ensures journals { (h : HashFunction) (command : CommandValue)
-        → journal_names (plan_of h command).journals ≡ option_to_list (journal_of command) }
+        → journal_names (plan_of h command).journals ≡ journals_of command }
     ensures makes { (h : HashFunction) (command : CommandValue)
         → made_names (plan_of h command).journals ≡ option_to_list (journal_made_by command) }
     ensures beside { (h : HashFunction) (leads_to : Text → Text)
@@ -47,7 +50,7 @@ pub fn law_plans_name_their_files()
 {}
 
 /// A command that may write its text while it reads its journal adds no record and makes no
-/// journal, whatever files there are: `entries`, `entries-from` and `export`.
+/// journal, whatever files there are: `entries`, `entries-from`, `export` and `mirror-entries`.
 pub fn law_streams_add_no_record()
     ensures records { StreamsAddNone }
     ensures journals { StreamsMakeNone }
@@ -74,9 +77,12 @@ pub fn law_commands_come()
 /// one-time key, and the text is the signature by that; where `advance` does, an Advance record,
 /// and the text is the size of the request; where `child` does, a Child record of the next lower
 /// tree, and the text is its number. The text of `export` is what others may know of the cosigner
-/// that was found, and no record is added. The text of `keygen`, of `init-cosigner` and of
-/// `init-cosigner2` is the public key of the secret that was read, and the new cosigner's first
-/// record is of that secret.
+/// that was found, and no record is added. Where `mirror-advance` answers with a text, a cosigner
+/// and a mirror were found, and the cosigner has an Advance record more, of the request that the
+/// mirror's items make; where `mirror-cosign` does, a Sign record with the next one-time key, and
+/// the text is the signature by that. The mirror has no record more. The text of `keygen`, of
+/// `init-cosigner` and of `init-cosigner2` is the public key of the secret that was read, and the
+/// new cosigner's first record is of that secret.
 pub fn law_texts_are_of_their_records()
     ensures issue { IssuedTextsAreOfRecords }
     ensures issue_list { IssuedListsAreOfRecords }
@@ -85,6 +91,8 @@ pub fn law_texts_are_of_their_records()
     ensures advance { AdvancedTextsAreOfRecords }
     ensures child { ChildTextsAreOfRecords }
     ensures export { ExportedTextsAreOfRecords }
+    ensures mirror_advance { MirrorAdvancedTextsAreOfRecords }
+    ensures mirror_cosign { MirrorCosignedTextsAreOfRecords }
     ensures keygen { KeyTextsAreOfSecrets }
     ensures init { BegunTextsAreOfSecrets }
 {}

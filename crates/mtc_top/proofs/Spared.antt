@@ -4,7 +4,7 @@ use Rattle.mtc_room.specs.declared.room.Room.{Ghosts as Rooms}
 use Rattle.mtc_command.proofs.Beside.{longer_other}
 use Rattle.mtc_command.specs.Answers.{tiles_name}
 use Rattle.mtc_command.specs.Served.{ClosesAll}
-use Rattle.mtc_authority.specs.NoJournal.{SparesTiles}
+use Rattle.mtc_tiled.specs.Headers.{SparesTiles}
 
 -- a command that names no file of tiles leaves each
 pub spared : {R S D : Type 0} (rooms : Rooms R S D) (old new : R) (name : List ℕ)

@@ -53,7 +53,7 @@ pub record HasStreamed (p : Program) (run : Run p.R p.O p.E) (text : Text) : Typ
   pub whole : run.status ≡ 0 → Prints p.outs run.out run.out_after text
 
 module _ (h : HashFunction) (p : Program) where
-  -- The journal of this name, whose records are those of a log or a cosigner.
+  -- The journal of this name, whose records are those of a log, a cosigner or a mirror.
   abbrev pub owner : Text → FileOwner p
   owner = journal_file p (AreRecords h)
 

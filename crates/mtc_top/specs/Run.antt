@@ -16,8 +16,8 @@ use Rattle.mtc_command.specs.Stored.{StoresBeside}
 use Rattle.mtc_command.specs.Valid.{KeepsValid}
 use Rattle.mtc_command.specs.Wanted.{Meets}
 use Rattle.mtc_command.specs.Works.{ModelsNew}
-use Rattle.mtc_authority.specs.NoJournal.{SparesTiles}
-use Rattle.mtc_authority.specs.StoredTiles.{HasTilesOf, MakesTilesWhole}
+use Rattle.mtc_authority.specs.StoredTiles.{MakesTilesWhole}
+use Rattle.mtc_tiled.specs.Headers.{SparesTiles}
 use Rattle.mtc_top.specs.Concluded.{BreaksAt, Concludes}
 use Rattle.mtc_top.specs.Facts.{Facts, facts}
 
@@ -81,14 +81,16 @@ module _ {R S D O E : Type 0} (h : HashFunction) (rooms : Rooms R S D) (disks : 
     -- If a journal isn't there, or its file doesn't begin with the header of a journal, the file of
     -- its tiles stays as it was, and isn't made.
     pub spares : OfEach (λ name did. SparesTiles rooms old new name) journals
-    -- A new record makes a log or a cosigner with those before it; or nothing new is left of the
-    -- journal, and it reads as before.
+    -- A new record makes a log, a cosigner or a mirror with those before it; or nothing new is left
+    -- of the journal, and it reads as before.
     pub valid : KeepsValid rooms disks asked.Valid asked.journals (asked.outcome (rooms.file old))
         old new
-    -- Of the journal of a log and the file of its tiles nothing new is left, and the journal reads
-    -- as before; or it has the records that were found, or these and the new one, and what is left
-    -- of the tiles goes with the records that are left, with the new one wherever it is there.
-    pub stores : StoresBeside (HasTilesOf h) asked.Valid rooms disks old new asked.journals
+    -- Of the journal of a log or a mirror and the file of its tiles nothing new is left, and the
+    -- journal reads as before; or it has the records that were found, or these and the new one, and
+    -- what is left of the tiles goes with the records that are left, with the new one wherever it
+    -- is there. What goes with what is said of the kind of the first journal; the file beside a
+    -- second one is only read.
+    pub stores : StoresBeside asked.goes asked.Valid rooms disks old new asked.journals
         asked.besides (asked.outcome (rooms.file old))
 
   -- It was cut off.

@@ -1,17 +1,17 @@
 //! The program's one call: the arguments, the work, and what goes out.
 
 ghost use Rattle.std.specs.Prelude.{◌≡◌, ◌<◌, ◌^◌, ◌+◌, [], ◌++◌, map, string_bytes, IfSome};
-ghost use Rattle.std.specs.Prelude.{IsErr, None, false};
-ghost use Rattle.mtc_words.specs.Commands.{command_value, journal_of, IsInRange};
-ghost use Rattle.mtc_words.specs.Words.{command_of};
+ghost use Rattle.std.specs.Prelude.{IsErr, false};
+ghost use Rattle.mtc_words.specs.Commands.{command_value, journals_of, IsInRange};
+ghost use Rattle.mtc_words.specs.Words.{command_of, is_named_twice, HaveOwnNames};
 ghost use Rattle.mtc_command.specs.Answers.{ending_of};
 ghost use Rattle.mtc_command.specs.Made.{HasKept};
-ghost use Rattle.mtc_authority.specs.NoJournal.{SparesTiles};
-ghost use Rattle.mtc_authority.specs.StoredTiles.{HasTilesOf, MakesTilesWhole};
+ghost use Rattle.mtc_authority.specs.StoredTiles.{MakesTilesWhole};
 ghost use Rattle.mtc_command.specs.Served.{HasDone, LeavesEach, OfEach, done_with};
 ghost use Rattle.mtc_command.specs.Stored.{StoresBeside};
 ghost use Rattle.mtc_command.specs.Valid.{KeepsValid};
 ghost use Rattle.mtc_command.specs.Works.{ModelsNew};
+ghost use Rattle.mtc_tiled.specs.Headers.{SparesTiles};
 ghost use Rattle.mtc_plans.specs.Cited.{command_outcome};
 ghost use Rattle.mtc_plans.specs.Words.{streams};
 ghost use Rattle.mtc_top.specs.Cited.{spoken_outcome};
@@ -38,6 +38,11 @@ use mtc_cosigner::requests::{advance, cosign};
 use mtc_drill::drill;
 use mtc_help::{help, version};
 use mtc_io::Sink;
+use mtc_mirror::entries::mirror_entries;
+use mtc_mirror::init::mirror_init;
+use mtc_mirror::take::mirror_take;
+use mtc_mirror::tile::mirror_tile;
+use mtc_mirror_steps::{mirror_advance, mirror_cosign};
 use mtc_monitor::held::held;
 use mtc_monitor::monitor::{monitor, monitor_init};
 use mtc_monitor::root::root;
@@ -61,7 +66,7 @@ fn perform_reading<'a, H: TreeHash, R: Room>(
 ) -> Result<Answer, Stop<'a>>
     requires opened { R.opened room.old + 1 < 2 ^ 32 }
     requires range { IsInRange (command_value command) }
-    requires alone { journal_of (command_value command) ≡ None }
+    requires alone { journals_of (command_value command) ≡ [] }
     ensures done { let asked = facts_of H.hash (command_value command.entry) in
         HasDone R.Room R.Dsk.Disk ⊥ (asked.journals ++ (asked.besides ++ asked.inputs))
         asked.journals asked.besides
@@ -82,7 +87,7 @@ fn perform_reading<'a, H: TreeHash, R: Room>(
         (done_with asked.journals
         (command_outcome H.hash (command_value command.entry) (R.file room.old)).journals) }
     ensures stores { let asked = facts_of H.hash (command_value command.entry) in
-        StoresBeside (HasTilesOf H.hash) asked.Valid R.Room R.Dsk.Disk room.old room.new
+        StoresBeside asked.goes asked.Valid R.Room R.Dsk.Disk room.old room.new
         asked.journals asked.besides
         (command_outcome H.hash (command_value command.entry) (R.file room.old)) }
 {
@@ -116,8 +121,10 @@ fn perform<'a, H: TreeHash, R: Room>(
     room: &mut R,
     command: Command<'a>,
 ) -> Result<Answer, Stop<'a>>
-    requires opened { R.opened room.old + 1 < 2 ^ 32 }
+    requires opened { R.opened room.old + 2 < 2 ^ 32 }
     requires range { IsInRange (command_value command) }
+    requires own_names { HaveOwnNames (journals_of (command_value command)) }
+    requires differ { is_named_twice (journals_of (command_value command)) ≡ false }
     requires kept { streams (command_value command) ≡ false }
     ensures done { let asked = facts_of H.hash (command_value command.entry) in
         HasDone R.Room R.Dsk.Disk ⊥ (asked.journals ++ (asked.besides ++ asked.inputs))
@@ -139,7 +146,7 @@ fn perform<'a, H: TreeHash, R: Room>(
         (done_with asked.journals
         (command_outcome H.hash (command_value command.entry) (R.file room.old)).journals) }
     ensures stores { let asked = facts_of H.hash (command_value command.entry) in
-        StoresBeside (HasTilesOf H.hash) asked.Valid R.Room R.Dsk.Disk room.old room.new
+        StoresBeside asked.goes asked.Valid R.Room R.Dsk.Disk room.old room.new
         asked.journals asked.besides
         (command_outcome H.hash (command_value command.entry) (R.file room.old)) }
 {
@@ -173,6 +180,15 @@ fn perform<'a, H: TreeHash, R: Room>(
         Command::Switch(log) => on_log::<H, R>(alloc, room, log, Work::Switch),
         Command::Tile(log) => on_log::<H, R>(alloc, room, log, Work::Tile),
         Command::TileAnew(log) => tile_anew::<H, R>(alloc, room, log),
+        Command::MirrorInit(journal, id) => mirror_init(alloc, room, journal, id),
+        Command::MirrorTake(journal, items) => mirror_take::<H, R>(alloc, room, journal, items),
+        Command::MirrorTile(journal) => mirror_tile::<H, R>(alloc, room, journal),
+        Command::MirrorAdvance(cosigner, mirror, size) => {
+            mirror_advance::<H, R>(alloc, room, cosigner, mirror, size)
+        }
+        Command::MirrorCosign(cosigner, mirror, start, end) => {
+            mirror_cosign::<H, R>(alloc, room, cosigner, mirror, start, end)
+        }
         _ => perform_reading::<H, R>(alloc, room, command),
     }
 }
@@ -184,8 +200,10 @@ fn carry_out<'a, H: TreeHash, R: Room, O: Sink>(
     command: Command<'a>,
     out: &mut O,
 ) -> Ended<'a>
-    requires opened { R.opened room.old + 1 < 2 ^ 32 }
+    requires opened { R.opened room.old + 2 < 2 ^ 32 }
     requires range { IsInRange (command_value command) }
+    requires own_names { HaveOwnNames (journals_of (command_value command)) }
+    requires differ { is_named_twice (journals_of (command_value command)) ≡ false }
     ensures done { let asked = facts_of H.hash (command_value command.entry) in
         HasCarriedOut O.Sink out.old out.new asked.streams (λ ending.
         HasDone R.Room R.Dsk.Disk ⊥ (asked.journals ++ (asked.besides ++ asked.inputs))
@@ -206,7 +224,7 @@ fn carry_out<'a, H: TreeHash, R: Room, O: Sink>(
         (done_with asked.journals
         (command_outcome H.hash (command_value command.entry) (R.file room.old)).journals) }
     ensures stores { let asked = facts_of H.hash (command_value command.entry) in
-        StoresBeside (HasTilesOf H.hash) asked.Valid R.Room R.Dsk.Disk room.old room.new
+        StoresBeside asked.goes asked.Valid R.Room R.Dsk.Disk room.old room.new
         asked.journals asked.besides
         (command_outcome H.hash (command_value command.entry) (R.file room.old)) }
 {
@@ -220,6 +238,9 @@ fn carry_out<'a, H: TreeHash, R: Room, O: Sink>(
             Ended::Written(stream_log::<H, R, O>(alloc, room, log, work, out))
         }
         Command::Export(journal) => Ended::Written(export::<H, R, O>(alloc, room, journal, out)),
+        Command::MirrorEntries(journal, size) => {
+            Ended::Written(mirror_entries::<H, R, O>(alloc, room, journal, size, out))
+        }
         _ => Ended::Kept(perform::<H, R>(alloc, room, command)),
     }
 }
@@ -231,7 +252,7 @@ fn answer<'a, H: TreeHash, R: Room, O: Sink>(
     room: &mut R,
     out: &mut O,
 ) -> Ended<'a>
-    requires { R.opened room.old + 1 < 2 ^ 32 }
+    requires { R.opened room.old + 2 < 2 ^ 32 }
     ensures done { let said = command_of (map string_bytes words.now) in
         let asked = facts H.hash said in
         HasCarriedOut O.Sink out.old out.new asked.streams (λ ending.
@@ -254,7 +275,7 @@ fn answer<'a, H: TreeHash, R: Room, O: Sink>(
         (done_with asked.journals (spoken_outcome H.hash said (R.file room.old)).journals) }
     ensures stores { let said = command_of (map string_bytes words.now) in
         let asked = facts H.hash said in
-        StoresBeside (HasTilesOf H.hash) asked.Valid R.Room R.Dsk.Disk room.old room.new
+        StoresBeside asked.goes asked.Valid R.Room R.Dsk.Disk room.old room.new
         asked.journals asked.besides (spoken_outcome H.hash said (R.file room.old)) }
 {
     match read_words(alloc, words) {
@@ -266,20 +287,21 @@ fn answer<'a, H: TreeHash, R: Room, O: Sink>(
 
 /// Does all that the program does: reads the arguments of a command, carries it out over a file
 /// system, and writes its text to `out` or a line to `err`. It closes everything that it opened.
-/// Each file stays as it was but the command's journal and the file of its log's tiles, and none is
+/// Each file stays as it was but the command's journals and the files of their tiles, and none is
 /// made but a new journal and such a file of tiles.
 ///
 /// Answers the status. 0 the command did its work, 3 the judgement is against, and 10 two different
 /// strings with one hash were found: each wrote to `out`. The others wrote a line to `err`: 1 the
-/// arguments are no command; 2 a named file isn't in its grammar, or the file of a log's tiles
-/// doesn't have what the log has stored; 4 the log or the cosigner doesn't allow what is asked; 5
-/// the file system failed; 6 `out` failed; 7 a named file isn't there, or that of a new journal is
-/// there already; 8 memory was refused; 9 an input is over its limit, or the log or a journal takes
-/// no more. Tests come in the order of the program's steps: the arguments, the input files, their
-/// grammars (a certificate's with its judgement), the journal, the log's tiles, and the command's
-/// own. A failure of `err` changes no status. `entries`, `entries-from` and `export` write while
-/// they read their journal: with 5 and 8 a prefix of the text may have gone out, with 8 not its
-/// last byte. After it is opened that journal is only read.
+/// arguments are no command; 2 a named file isn't in its grammar, or the file of the tiles of a log
+/// or a mirror doesn't have what its journal says; 4 the log, the cosigner or the mirror doesn't
+/// allow what is asked; 5 the file system failed; 6 `out` failed; 7 a named file isn't there, or
+/// that of a new journal is there already; 8 memory was refused; 9 an input is over its limit, or a
+/// log, a mirror or a journal takes no more. Tests come in the order of the program's steps: the
+/// arguments, the input files, their grammars (a certificate's with its judgement), the journals,
+/// each with its tiles, and the command's own. A failure of `err` changes no status. `entries`,
+/// `entries-from`, `export` and `mirror-entries` write while they read their journal: with 5 and 8
+/// a prefix of the text may have gone out, with 8 not its last byte. After it is opened that
+/// journal is only read.
 ///
 /// What follows of each run, and how it ends as steps of a party, is [`crate::law_runs_are_steps`].
 pub fn run<H: TreeHash, R: Room, O: Sink, E: Sink>(

@@ -1,5 +1,6 @@
 use Rattle.mtc_plans.proofs.Heard.{advanced_so, begun_so, cosigned_so, exported_so, issued_so}
 use Rattle.mtc_plans.proofs.Heard.{all_issued_so, has_child_so, keyed_so, switched_so}
+use Rattle.mtc_plans.proofs.HeardOfBoth.{mirror_advanced_so, mirror_cosigned_so}
 use Rattle.mtc_plans.proofs.laws.law_texts_are_of_their_records.Goals as goal
 
 pub returns-clause-issue : goal.returns-clause-issue
@@ -28,3 +29,9 @@ returns-clause-keygen c = keyed_so
 
 pub returns-clause-init : goal.returns-clause-init
 returns-clause-init c = begun_so
+
+pub returns-clause-mirror_advance : goal.returns-clause-mirror_advance
+returns-clause-mirror_advance c = mirror_advanced_so
+
+pub returns-clause-mirror_cosign : goal.returns-clause-mirror_cosign
+returns-clause-mirror_cosign c = mirror_cosigned_so

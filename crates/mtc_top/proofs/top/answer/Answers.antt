@@ -5,8 +5,8 @@ use Rattle.mtc_command.specs.Served.{HasDone, OfEach, done_with}
 use Rattle.mtc_command.specs.Stored.{StoresBeside}
 use Rattle.mtc_command.specs.Valid.{KeepsValid}
 use Rattle.mtc_command.specs.Works.{ModelsNew}
-use Rattle.mtc_authority.specs.NoJournal.{SparesTiles}
-use Rattle.mtc_authority.specs.StoredTiles.{HasTilesOf, MakesTilesWhole}
+use Rattle.mtc_authority.specs.StoredTiles.{MakesTilesWhole}
+use Rattle.mtc_tiled.specs.Headers.{SparesTiles}
 use Rattle.mtc_plans.specs.Cited.{command_outcome}
 use Rattle.mtc_top.specs.Cited.{spoken_outcome}
 use Rattle.mtc_top.specs.Ended.{HasCarriedOut}
@@ -57,8 +57,9 @@ returns-in-Ok-clause-spares g c =
 
 pub returns-in-Ok-clause-stores : goal.returns-in-Ok-clause-stores
 returns-in-Ok-clause-stores g c =
-    subst (λ (said : Result CommandValue WordError). StoresBeside (HasTilesOf g.H.TreeHash.hash)
-    (facts g.H.TreeHash.hash said).Valid g.R.Room g.R.Dsk.Disk c.args.room.now c.carry_out.new.room
-    (facts g.H.TreeHash.hash said).journals (facts g.H.TreeHash.hash said).besides
+    subst (λ (said : Result CommandValue WordError).
+    let asked = facts g.H.TreeHash.hash said in
+    StoresBeside asked.goes asked.Valid g.R.Room g.R.Dsk.Disk c.args.room.now c.carry_out.new.room
+    asked.journals asked.besides
     (spoken_outcome g.H.TreeHash.hash said (g.R.Room.file c.args.room.now)))
     (sym c.in-Ok.ensures.exact) c.carry_out.ensures.stores

@@ -2,7 +2,7 @@ use Rattle.std.proofs.Common.{◌≡◌, false, refl}
 use Rattle.mtc_words.specs.Commands.{command_value}
 use Rattle.mtc_words.specs.declared.command.Command.{Command}
 use Rattle.mtc_words.specs.declared.command.Command.TheVariants.{Entries, EntriesFrom}
-use Rattle.mtc_words.specs.declared.command.Command.TheVariants.{Export}
+use Rattle.mtc_words.specs.declared.command.Command.TheVariants.{Export, MirrorEntries}
 use Rattle.mtc_lines.proofs.Outputs.{some_ending, streams_so}
 use Rattle.mtc_plans.specs.Words.{streams}
 use Rattle.mtc_top.proofs.Spared.{spared}
@@ -34,6 +34,8 @@ perform-requires-clause-kept g c = go c.args.command refl
     go (EntriesFrom journal first size) is =
         absurd (c.in_default.not-EntriesFrom journal first size is)
     go (Export journal) is = absurd (c.in_default.not-Export journal is)
+    go (MirrorEntries journal size) is =
+        absurd (c.in_default.not-MirrorEntries journal size is)
     go other is = refl
 
 pub returns-in-Entries-clause-done : goal.returns-in-Entries-clause-done
@@ -79,3 +81,33 @@ returns-in-EntriesFrom-clause-spares g c =
 pub returns-in-EntriesFrom-clause-stores : goal.returns-in-EntriesFrom-clause-stores
 returns-in-EntriesFrom-clause-stores g c =
     rw c.in-EntriesFrom.is c.stream_log-in-EntriesFrom.ensures.stores
+
+pub returns-in-MirrorEntries-clause-done : goal.returns-in-MirrorEntries-clause-done
+returns-in-MirrorEntries-clause-done g c = rw c.in-MirrorEntries.is (
+  refl,
+  streams_so g.O.Sink c.args.out.now c.mirror_entries.new.out _ _
+      (λ ending served. (served.serves, (tt, tt))) c.mirror_entries.result
+      c.mirror_entries.ensures.streams,
+)
+
+pub returns-in-MirrorEntries-clause-valid : goal.returns-in-MirrorEntries-clause-valid
+returns-in-MirrorEntries-clause-valid g c =
+    let served = some_ending g.O.Sink c.args.out.now c.mirror_entries.new.out _
+    c.mirror_entries.result c.mirror_entries.ensures.streams in
+    rw c.in-MirrorEntries.is served.1.valid
+
+pub returns-in-MirrorEntries-clause-only_read : goal.returns-in-MirrorEntries-clause-only_read
+returns-in-MirrorEntries-clause-only_read g c =
+    rw c.in-MirrorEntries.is (λ t. (c.mirror_entries.ensures.only_read t, tt))
+
+pub returns-in-MirrorEntries-clause-spares : goal.returns-in-MirrorEntries-clause-spares
+returns-in-MirrorEntries-clause-spares g c =
+    let served = some_ending g.O.Sink c.args.out.now c.mirror_entries.new.out _
+    c.mirror_entries.result c.mirror_entries.ensures.streams in
+    rw c.in-MirrorEntries.is (served.1.spares, tt)
+
+pub returns-in-MirrorEntries-clause-stores : goal.returns-in-MirrorEntries-clause-stores
+returns-in-MirrorEntries-clause-stores g c =
+    let served = some_ending g.O.Sink c.args.out.now c.mirror_entries.new.out _
+    c.mirror_entries.result c.mirror_entries.ensures.streams in
+    rw c.in-MirrorEntries.is served.1.stores
