@@ -32,13 +32,15 @@ TRAITS = ("mtc_room/src/room.rt", "disk_core/src/disk.rt", "mtc_io/src/source.rt
 # these standards and formats; the definitions of its level on which such a word rests are in the list too.
 WHOLE = r"law_the_whole_\w+"
 LEVEL = ("file_events", "party_history", "mtc_top", "mtc_laws")
-MOST = 115
+MOST = 118
 STANDARDS = {
     "the words for bytes, readings and forms": ("byte_formats",),
     "files and streams ([OPERATIONS](../OPERATIONS.md))": ("mtc_io", "disk_core", "mtc_room"),
-    "journals, records, lists and exports ([FORMATS](../FORMATS.md))": ("journal_core", "issuance_log", "cosigner_core", "entry_list"),
+    "journals, records, lists and exports ([FORMATS](../FORMATS.md))": ("journal_core", "issuance_log", "mirror_core", "cosigner_core", "mirror_cosigner",
+                                                                        "entry_list"),
     "words and answers ([COMMANDS](../COMMANDS.md))": ("mtc_words", "mtc_command", "mtc_relying", "mtc_authority", "mtc_cosigner",
-                                               "mtc_drill", "mtc_help", "command_plans", "mtc_plans"),
+                                               "mtc_tiled", "mtc_mirror", "mtc_mirror_steps", "mtc_drill", "mtc_help",
+                                               "command_plans", "mtc_plans"),
     "audits: a list of entries beside what was accepted": ("cosigner_steps", "world_core"),
     "the draft: proofs, stores and judgement, issuing": ("mtc_proof", "policy_core", "authority_core"),
     "RFC 9162 and the draft: trees": ("tree_core", "tree_proofs", "landmarks", "collide"),

@@ -59,10 +59,11 @@ use Rattle.mtc_laws.proofs.Aliases.{EachOwnRun, IsHeard, IsOwnExecution, IsRun}
 use Rattle.mtc_laws.proofs.Audits.{printed_text}
 use Rattle.mtc_laws.proofs.HeardRuns.{contents_crash_state, heard_held, modelled_file}
 use Rattle.mtc_laws.proofs.Listed.{item_of, lists_printed}
-use Rattle.mtc_laws.proofs.Printed.{indices_printed}
+use Rattle.mtc_laws.proofs.Printed.{indices_printed, MirrorsAreSound}
 use Rattle.mtc_laws.proofs.Recovered.{each_held, held_prefix, modelled_then}
 use Rattle.mtc_laws.proofs.HeardBytes.{done_heard}
-use Rattle.mtc_laws.specs.AcceptanceLaws.{AsksForCertificate, Backs, HasWritten}
+use Rattle.mtc_laws.specs.AcceptanceLaws.{AsksForCertificate, Backs}
+use Rattle.mtc_laws.specs.Cosigners.{HasWritten}
 use Rattle.mtc_laws.specs.AcceptanceLaws.{IssuedCertificatesAreAccepted, WritesCertificate}
 use Rattle.mtc_laws.specs.AcceptanceLaws.{certified_hash}
 use Rattle.mtc_laws.specs.PemLaws.{IsAcceptedAlone, IsAcceptedAmong, IsAcceptedAt, LogCertificate}
@@ -126,7 +127,8 @@ module _ {R S D O E : Type 0} (h : HashFunction) (rooms : Rooms R S D) (disks : 
     (outs : Sinks O) (errs : Sinks E) (crash_state : ReadsCrashState disks) (only : OnlyNow disks)
     (contents : ModelsFiles rooms disks)
     (bytes : (d : D) (b : List ℕ) → disks.contents d ≡ Some b → IsBytes b)
-    (sized : (b : Text) → length (h b) ≡ 32) (firsts : FirstsKeepToRules) where
+    (sized : (b : Text) → length (h b) ≡ 32) (firsts : FirstsKeepToRules)
+    (mirrors : MirrorsAreSound h) where
   abbrev p : Program
   p = program h rooms disks outs errs
 
@@ -332,7 +334,7 @@ module _ {R S D O E : Type 0} (h : HashFunction) (rooms : Rooms R S D) (disks : 
             | inl satisfied ↦ satisfied
             | inr cosigned ↦ printed_satisfy h rooms disks outs errs crash_state only contents bytes
                 store c.span.start c.span.end (certified_hash h p s c.span) c.are.list proof refl
-                refl c.are.each c.are.encoded cosigned
+                refl c.are.each c.are.encoded sized mirrors cosigned
           ])
         ];
       }

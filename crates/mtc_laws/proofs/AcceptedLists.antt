@@ -21,7 +21,7 @@ use Rattle.mtc_words.specs.Words.{command_of}
 use Rattle.mtc_authority.specs.CertOutcome.{certificate_in, light_text}
 use Rattle.mtc_authority.specs.ListOutcomes.{certs_text, light_certs_text}
 use Rattle.mtc_command.proofs.Made.{OnlyNow, ReadsCrashState}
-use Rattle.mtc_laws.specs.AcceptanceLaws.{HasWritten}
+use Rattle.mtc_laws.specs.Cosigners.{HasWritten}
 use Rattle.mtc_laws.specs.AuditLaws.{HoldsText}
 use Rattle.mtc_laws.specs.PemLaws.{AsksForCertificates, CertifiesEntry, IsAcceptedAsIssued}
 use Rattle.mtc_laws.specs.PemLaws.{ListedCertificatesAreAccepted, LogCertificate}
@@ -39,6 +39,7 @@ use Rattle.mtc_laws.proofs.PemTexts.{certs_unrefused, light_certs_unrefused}
 use Rattle.mtc_laws.proofs.Recovered.{modelled_then}
 use Rattle.mtc_laws.proofs.SoundLogs.{FirstsKeepToRules}
 use Rattle.mtc_laws.proofs.Aliases.{ModelsFiles}
+use Rattle.mtc_laws.proofs.Printed.{MirrorsAreSound}
 
 -- what holds of the certificate of each index holds of each in their PEM
 holds_each : (P : ℕ → Text → Type 0) (certificate : ℕ → Text) (first last : ℕ) (text : Text)
@@ -65,7 +66,8 @@ module _ {R S D O E : Type 0} (h : HashFunction) (rooms : Rooms R S D) (disks : 
     (outs : Sinks O) (errs : Sinks E) (crash_state : ReadsCrashState disks) (only : OnlyNow disks)
     (contents : ModelsFiles rooms disks)
     (bytes : (d : D) (b : List ℕ) → disks.contents d ≡ Some b → IsBytes b)
-    (sized : (b : Text) → length (h b) ≡ 32) (firsts : FirstsKeepToRules) where
+    (sized : (b : Text) → length (h b) ≡ 32) (firsts : FirstsKeepToRules)
+    (mirrors : MirrorsAreSound h) where
   abbrev p : Program
   p = program h rooms disks outs errs
 
@@ -81,14 +83,15 @@ module _ {R S D O E : Type 0} (h : HashFunction) (rooms : Rooms R S D) (disks : 
 
     -- a certificate of the log is accepted as issued
     is_accepted : (c : LogCertificate) (written : Text) → IsOfLog h rooms disks outs errs
-        crash_state only contents bytes sized firsts name new c
-        → written ≡ bytes_of h rooms disks outs errs crash_state only contents bytes sized firsts c
+        crash_state only contents bytes sized firsts mirrors name new c
+        → written ≡ bytes_of h rooms disks outs errs crash_state only contents bytes sized firsts
+        mirrors c
         → IsAcceptedAsIssued h p c written name begins events
     is_accepted c written k same = record {
       alone = accepted_alone h rooms disks outs errs crash_state only contents bytes sized firsts
-          name start first begins new events begun execution c k written same;
+          mirrors name start first begins new events begun execution c k written same;
       among = accepted_among h rooms disks outs errs crash_state only contents bytes sized firsts
-          name start first begins new events begun execution c k written same;
+          mirrors name start first begins new events begun execution c k written same;
     }
 
     heard : IsHeard outs run
@@ -103,7 +106,7 @@ module _ {R S D O E : Type 0} (h : HashFunction) (rooms : Rooms R S D) (disks : 
         let f = x.found in
         let state = f.prints.state in
         let signed = signatures_are h rooms disks outs errs crash_state only contents bytes sized
-        firsts name new is_modelled x.text x.signatures x.text_is x.asked in
+        firsts mirrors name new is_modelled x.text x.signatures x.text_is x.asked in
         let free = certs_unrefused (view_in state) from to start_at end_at x.signatures x.allowed in
         let same = printed_text (outs.taken run.out) (outs.taken run.out_after) wrote.before text
         (certs_text h from to start_at end_at x.signatures state) wrote.contents wrote.printed
@@ -121,8 +124,9 @@ module _ {R S D O E : Type 0} (h : HashFunction) (rooms : Rooms R S D) (disks : 
           are = signed.1;
         } in
         let k = unrefused_of_log h rooms disks outs errs crash_state only contents bytes sized
-        firsts name new is_modelled f.held f.prints.list state index start_at end_at x.signatures
-        signed.1 f.there f.are f.stands f.prints.log_is (free.each index above below) in (
+        firsts mirrors name new is_modelled f.held f.prints.list state index start_at end_at
+        x.signatures signed.1 f.there f.are f.stands f.prints.log_is (free.each index above below)
+        in (
           record {
             span = span;
             signatures = x.signatures;
@@ -158,15 +162,15 @@ module _ {R S D O E : Type 0} (h : HashFunction) (rooms : Rooms R S D) (disks : 
         let found = covered (view_in state) index allowed in
         let span = found.0 in
         let written = light_text h index state (covering_in (view_in state) index) in
-        let are = no_signatures h rooms disks outs errs crash_state only contents bytes sized firsts
-        in
+        let are = no_signatures h rooms disks outs errs crash_state only contents bytes sized
+        firsts mirrors in
         let c : LogCertificate =
         record { state = state; index = index; span = span; signatures = []; are = are } in
         let is : written ≡ certificate_in h index span.start span.end [] state =
         ap (λ (o : Option Span). light_text h index state o) found.1 in
         let k = light_of_log h rooms disks outs errs crash_state only contents bytes sized firsts
-        name new is_modelled f.held f.prints.list state index span are f.there f.are f.stands
-        f.prints.log_is found.1 allowed in (
+        mirrors name new is_modelled f.held f.prints.list state index span are f.there f.are
+        f.stands f.prints.log_is found.1 allowed in (
           record {
             span = span;
             signatures = [];

@@ -49,6 +49,8 @@ use Rattle.entry_list.specs.Reasons.{items_fault_text}
 use Rattle.policy_core.specs.Reasons.{store_fault_text}
 use Rattle.mtc_laws.specs.AuditLaws.{AuditsStand, HasCounted, HoldsText, IsAuditOf}
 use Rattle.mtc_laws.specs.AuditLaws.{IsSignedInExecution, StandsOrPair}
+use Rattle.mtc_laws.specs.Cosigners.{CosignerExecution, WasExported}
+use Rattle.mtc_laws.specs.ExportLaws.{HasExported}
 use Rattle.mtc_top.specs.Concluded.{Prints}
 use Rattle.mtc_top.specs.Facts.{facts}
 use Rattle.mtc_laws.proofs.Exports.{exports_hold}
@@ -170,17 +172,31 @@ module _ {R S D O E : Type 0} (h : HashFunction) (rooms : Rooms R S D) (disks : 
     (outs : Sinks O) (errs : Sinks E) (crash_state : ReadsCrashState disks) (only : OnlyNow disks)
     (contents : ModelsFiles rooms disks)
     (bytes : (d : D) (b : List ℕ) → disks.contents d ≡ Some b → IsBytes b) where
+  -- what a run of `export` printed after an execution
+  pub exported_after : (x : CosignerExecution h (program h rooms disks outs errs))
+      (text : List ℕ) (was : WasExported h (program h rooms disks outs errs) x text)
+      → (e : HasExported h (program h rooms disks outs errs) x.settings x.public x.name x.begins
+      x.events x.ends was.run) × (text ≡ e.text)
+  exported_after x text was =
+      let run = was.run in
+      let wrote = was.written in
+      let e = exports_hold h rooms disks outs errs crash_state only contents bytes x.name
+      (Cosigner x.settings x.public) x.first x.begins x.ends x.events x.begun x.execution
+      x.settings x.public refl run was.has_run was.spoken
+      (done_heard run.status (outs.taken run.out) (outs.taken run.out_after) wrote.done) in (
+        e,
+        printed_text (outs.taken run.out) (outs.taken run.out_after) wrote.before text e.text
+            wrote.contents wrote.printed (e.printed.whole wrote.done),
+      )
+
   -- the export that is audited was read
   pub kept_there : (x : AuditCase) (kept_text : List ℕ) → export_in h kept_text ≡ Ok x.kept
       → IsSignedInExecution h (program h rooms disks outs errs) x kept_text
       → (e : Export) × (x.kept ≡ Some e)
   kept_there x kept_text read by =
-      let e = exports_hold h rooms disks outs errs crash_state only contents bytes by.name
-      (Cosigner by.settings by.public) by.first by.begins by.old by.events by.begun by.execution
-      by.settings by.public refl by.run by.has_run by.spoken
-      (done_heard by.run.status (outs.taken by.run.out) (outs.taken by.run.out_after) by.done) in
-      let same = printed_text (outs.taken by.run.out) (outs.taken by.run.out_after) by.before
-      kept_text e.text by.contents by.printed (e.printed.whole by.done) in (
+      let both = exported_after by.signer kept_text by.exported in
+      let e = both.0 in
+      let same = both.1 in (
         e.export,
         ok_is ReadExportError x.kept (Some e.export) (sym read ∙ ap (export_in h) same ∙ e.read),
       )
@@ -188,21 +204,19 @@ module _ {R S D O E : Type 0} (h : HashFunction) (rooms : Rooms R S D) (disks : 
   signed : (x : AuditCase) (kept_text : List ℕ) → export_in h kept_text ≡ Ok x.kept
       → IsSignedInExecution h (program h rooms disks outs errs) x kept_text → is_supported x ≡ true
   signed x kept_text read by =
-      let e = exports_hold h rooms disks outs errs crash_state only contents bytes by.name
-      (Cosigner by.settings by.public) by.first by.begins by.old by.events by.begun by.execution
-      by.settings by.public refl by.run by.has_run by.spoken
-      (done_heard by.run.status (outs.taken by.run.out) (outs.taken by.run.out_after) by.done) in
-      let same = printed_text (outs.taken by.run.out) (outs.taken by.run.out_after) by.before
-      kept_text e.text by.contents by.printed (e.printed.whole by.done) in
+      let both = exported_after by.signer kept_text by.exported in
+      let e = both.0 in
+      let same = both.1 in
       let kept : x.kept ≡ Some e.export = ok_is ReadExportError x.kept (Some e.export)
       (sym read ∙ ap (export_in h) same ∙ e.read) in
-      let there = e.signed by.first by.prefix by.more by.body
-      (Sign by.index x.accepted.start x.accepted.end x.accepted.hash by.proof) by.held by.signs in
+      let s = by.signed in
+      let there = e.signed by.signer.first s.prefix s.more s.body
+      (Sign s.index x.accepted.start x.accepted.end x.accepted.hash s.proof) s.held s.signs in
       ap (λ (b : By). is_recorded_by x.store x.accepted b x.kept) by.by
       ∙ ap (is_recorded_by x.store x.accepted (Cosigners by.set)) kept
-      ∙ recorded_so x.store x.accepted by.set e.export by.index by.proof (e.log_is ∙ by.log_is)
-      (counted_so x.store by.set e.export by.settings.id by.public e.cosigner_is e.key_is
-      by.counts) there
+      ∙ recorded_so x.store x.accepted by.set e.export s.index s.proof (e.log_is ∙ by.log_is)
+      (counted_so x.store by.set e.export by.signer.settings.id by.signer.public e.cosigner_is
+      e.key_is by.counts) there
 
   supported : (x : AuditCase) (kept_text : List ℕ) → export_in h kept_text ≡ Ok x.kept
       → (x.accepted.by ≡ Landmark)

@@ -1,5 +1,5 @@
 -- A run of `quarrel` over the export of a cosigner that signed one interval with two hashes.
-use Rattle.std.proofs.Common.{◌≡◌, inl, ℕ, List, Some, Result, Ok, refl, sym, subst, ap}
+use Rattle.std.proofs.Common.{◌≡◌, inl, ℕ, List, Some, Result, Ok, sym, subst, ap}
 use Rattle.std.proofs.Common.{◌∙◌}
 use Rattle.std.specs.Prelude.{◌≢◌}
 use Rattle.byte_formats.specs.Offsets.{IsBytes}
@@ -16,7 +16,6 @@ use Rattle.cosigner_core.specs.declared.step.Step.{Step}
 use Rattle.cosigner_core.specs.declared.step.Step.TheVariants.{Sign}
 use Rattle.quarrel_core.proofs.FoundSigns.{HasQuarrel, signs_found}
 use Rattle.mtc_plans.proofs.Planned.{outcome_planned}
-use Rattle.party_history.specs.declared.start.PartyStart.TheVariants.{Cosigner}
 use Rattle.mtc_command.specs.Answers.{Reply, said, refused, out_of, status_of}
 use Rattle.mtc_command.specs.Steps.{Files, Outcome, with_form}
 use Rattle.mtc_command.specs.Wanted.{Meets}
@@ -29,9 +28,7 @@ use Rattle.mtc_laws.specs.AuditLaws.{HoldsText}
 use Rattle.mtc_top.specs.Concluded.{Prints}
 use Rattle.mtc_top.specs.Facts.{facts}
 use Rattle.mtc_laws.specs.QuarrelLaws.{Convicts, HasSignedTwice, TwoSignaturesCollide}
-use Rattle.mtc_laws.proofs.Audits.{printed_text}
-use Rattle.mtc_laws.proofs.Exports.{exports_hold}
-use Rattle.mtc_laws.proofs.HeardBytes.{done_heard}
+use Rattle.mtc_laws.proofs.Audits.{exported_after}
 use Rattle.mtc_top.proofs.Runs.{answered, wrote_of}
 use Rattle.mtc_top.specs.Executions.{program, Run}
 use Rattle.mtc_laws.proofs.Aliases.{IsRun}
@@ -95,12 +92,10 @@ module _ {R S D O E : Type 0} (h : HashFunction) (rooms : Rooms R S D) (disks : 
   in_conflict : (kept_text : List ℕ) → HasSignedTwice h (program h rooms disks outs errs) kept_text
       → IsInConflict h kept_text
   in_conflict kept_text by =
-      let e = exports_hold h rooms disks outs errs crash_state only contents bytes by.name
-      (Cosigner by.settings by.public) by.first by.begins by.old by.events by.begun by.execution
-      by.settings by.public refl by.run by.has_run by.spoken
-      (done_heard by.run.status (outs.taken by.run.out) (outs.taken by.run.out_after) by.done) in
-      let same = printed_text (outs.taken by.run.out) (outs.taken by.run.out_after) by.before
-      kept_text e.text by.contents by.printed (e.printed.whole by.done) in
+      let both = exported_after h rooms disks outs errs crash_state only contents bytes by.signer
+      kept_text by.exported in
+      let e = both.0 in
+      let same = both.1 in
       let one = by.one_signed in
       let other = by.other_signed in
       record {
@@ -108,9 +103,9 @@ module _ {R S D O E : Type 0} (h : HashFunction) (rooms : Rooms R S D) (disks : 
         read = ap (export_in h) same ∙ e.read;
         found = signs_found e.export.steps one.index other.index by.start by.end by.one by.other
             one.proof other.proof
-            (e.signed by.first one.prefix one.more one.body
+            (e.signed by.signer.first one.prefix one.more one.body
             (Sign one.index by.start by.end by.one one.proof) one.held one.signs)
-            (e.signed by.first other.prefix other.more other.body
+            (e.signed by.signer.first other.prefix other.more other.body
             (Sign other.index by.start by.end by.other other.proof) other.held other.signs)
             by.differ;
       }

@@ -1,6 +1,6 @@
 -- What `cosign` printed counts for each store that has the cosigner's id and key.
-use Rattle.std.proofs.Common.{◌≡◌, ℕ, ◌^◌, ◌<◌, Bool, true, false, List, []}
-use Rattle.std.proofs.Common.{◌∷◌, ◌++◌, length, None, Some, Ok, refl, sym, subst, ap}
+use Rattle.std.proofs.Common.{◌≡◌, ℕ, ◌^◌, ◌<◌, true, List, []}
+use Rattle.std.proofs.Common.{◌∷◌, ◌++◌, length, None, Some, Ok, sym, subst, ap}
 use Rattle.std.proofs.Common.{◌∙◌, arith}
 use Rattle.std.specs.Int.{w32, to_be_bytes}
 use Rattle.std.specs.Prelude.{Option, slice_get, ◌/◌, ◌%◌}
@@ -20,9 +20,8 @@ use Rattle.hss_keys.specs.Keys.{signing_key, two_level_signature}
 use Rattle.hss_keys.proofs.Newest.{length-lower_secret, signed_verifies}
 use Rattle.disk_core.specs.declared.disk.Disk.{Ghosts as Disks}
 use Rattle.journal_core.specs.Folds.{state_after}
-use Rattle.journal_core.specs.Format.{AreRecordsAt, end_offset}
+use Rattle.journal_core.specs.Format.{AreRecordsAt}
 use Rattle.journal_core.proofs.Copies.{first_are_bytes}
-use Rattle.journal_core.proofs.Standing.{found_stands}
 use Rattle.file_events.specs.Executions.{IsPrefix}
 use Rattle.file_events.proofs.Stays.{first_held}
 use Rattle.mtc_io.specs.declared.sink.Sink.{Ghosts as Sinks}
@@ -33,43 +32,33 @@ use Rattle.policy_core.specs.Counting.{counted, is_in_set, is_named}
 use Rattle.policy_core.specs.declared.cosigners.Known.{Known}
 use Rattle.policy_core.specs.declared.store.Store.{Store}
 use Rattle.policy_core.proofs.Sets.{signed_counts}
-use Rattle.cosigner_core.specs.Folds.{CosignerState, cosigner_fold}
+use Rattle.cosigner_core.specs.Folds.{CosignerState}
 use Rattle.cosigner_core.specs.Folds.{cosigner_of, key_count}
-use Rattle.cosigner_core.specs.Records.{cosigner_in, sign_record}
-use Rattle.cosigner_core.specs.Refusals.{cosign_refused, journal_refusal}
-use Rattle.cosigner_core.specs.Refusals.{subtree_refusal}
+use Rattle.cosigner_core.specs.Records.{cosigner_in}
 use Rattle.cosigner_core.specs.Requests.{SubtreeParts}
 use Rattle.cosigner_core.specs.Signatures.{signature_by}
 use Rattle.cosigner_core.specs.declared.settings.CosignerSettings.{CosignerSettings}
 use Rattle.cosigner_core.proofs.FirstRecords.{cosigner_takes}
 use Rattle.cosigner_core.proofs.Lengths.{signature_short}
-use Rattle.cosigner_core.proofs.Forms.{subtree_only}
 use Rattle.cosigner_core.proofs.Names.{Began, began_first}
-use Rattle.cosigner_core.proofs.Allowed.{key_left, none_first}
 use Rattle.cosigner_core.proofs.After.{no_cosigner}
 use Rattle.cosigner_core.proofs.Counts.{counts_up}
-use Rattle.cosigner_core.proofs.Keys.{few_keys}
 use Rattle.party_history.specs.Rules.{StartsWith}
 use Rattle.party_history.specs.declared.start.PartyStart.{PartyStart}
 use Rattle.party_history.specs.declared.start.PartyStart.TheVariants.{Cosigner}
-use Rattle.party_history.proofs.Cosigners.{of_first, sign_read}
-use Rattle.mtc_words.specs.Commands.{cosign}
-use Rattle.mtc_command.specs.Made.{appended}
+use Rattle.party_history.proofs.Cosigners.{of_first}
 use Rattle.mtc_command.proofs.Made.{OnlyNow, ReadsCrashState}
-use Rattle.mtc_cosigner.specs.CosignerOutcomes.{cosigned_text}
-use Rattle.mtc_plans.specs.Heard.{CosignsSo}
-use Rattle.mtc_plans.proofs.Heard.{cosigned_so}
-use Rattle.mtc_top.specs.Executions.{program}
-use Rattle.mtc_laws.specs.PrintLaws.{HasCosigned, OfHeard}
-use Rattle.mtc_laws.proofs.HeardRuns.{file_bytes, heard_held, printed_so}
-use Rattle.mtc_laws.proofs.Streams.{plain_command}
+use Rattle.mtc_top.specs.Executions.{program, FileEvent, IsBegun, Run, WasHeld}
+use Rattle.mtc_laws.specs.PrintLaws.{OfHeard}
+use Rattle.mtc_laws.proofs.HeardRuns.{file_bytes, heard_held}
 use Rattle.mtc_laws.proofs.Leaves.{first_own, serves}
-use Rattle.mtc_laws.proofs.Printed.{did_so, heard_so}
+use Rattle.mtc_laws.proofs.Printed.{CosignsOver, MirrorsAreSound, signing_printed}
 use Rattle.mtc_laws.proofs.Recovered.{crash_state_list, each_held, held_prefix, modelled_then}
-use Rattle.mtc_laws.proofs.Aliases.{ModelsFiles}
-use Rattle.mtc_laws.specs.CountLaws.{PrintedSignaturesCount, signature_of}
+use Rattle.mtc_laws.proofs.Aliases.{ModelsFiles, HasHeld, IsHeard, IsOwnExecution, IsRun}
+use Rattle.mtc_laws.specs.CountLaws.{PrintedSignaturesCount, signature_of, CountsInStores}
+use Rattle.file_events.specs.Worlds.{Program}
 
--- ---- a cosigner keeps its key, and the next one-time key is one of its keys
+-- ---- a cosigner keeps its key
 
 key_of_first : (h : HashFunction) (settings : CosignerSettings) (first secret : List ℕ)
     (bodies : List (List ℕ)) (s : CosignerState) → cosigner_in first ≡ Some (settings, secret)
@@ -77,12 +66,6 @@ key_of_first : (h : HashFunction) (settings : CosignerSettings) (first secret : 
     → s.key.key ≡ signing_key settings.lms settings.low settings.ots secret
 key_of_first h settings first secret bodies s begins is =
     ap (λ (x : Began). x.2) (began_first h settings first secret bodies s begins is)
-
-next_below : (h : HashFunction) (s : CosignerState) (broken : Bool) (end : ℕ) (r : SubtreeParts)
-    → cosign_refused h s broken end r ≡ None → s.key.next < key_count s
-next_below h s broken end r is =
-    key_left h s r (none_first (subtree_refusal h s r)
-    (journal_refusal broken end (sign_record s.key.next r.start r.end r.hash r.proof)) is)
 
 -- ---- how long its signatures are
 
@@ -191,80 +174,81 @@ module _ {R S D O E : Type 0} (h : HashFunction) (rooms : Rooms R S D) (disks : 
     (outs : Sinks O) (errs : Sinks E) (crash_state : ReadsCrashState disks) (only : OnlyNow disks)
     (contents : ModelsFiles rooms disks)
     (bytes : (d : D) (b : List ℕ) → disks.contents d ≡ Some b → IsBytes b) where
-  pub signatures_count : PrintedSignaturesCount h (program h rooms disks outs errs)
-  signatures_count name start first begins new events begun execution settings public file is =
-      let p = program h rooms disks outs errs in
-      let own = first_own h rooms disks outs errs crash_state only contents bytes name
-      (first ∷ begun.others) begins events begun.held in
-      let one =
-      (serves h rooms disks outs errs crash_state only contents bytes name own).rooms.some new name
-      (modelled_then h rooms disks outs errs crash_state only contents bytes name start first begins
-      new events begun execution) in
-      let stands = crash_state_list h rooms disks outs errs crash_state only contents bytes name
-      start first begins new events begun execution one.0 one.1 in
-      let found = stands.0 in
-      let starts : StartsWith (Cosigner settings public) first =
-      subst (λ (n : PartyStart). StartsWith n first) is begun.starts in
-      let whole = held_prefix h rooms disks outs errs crash_state only contents bytes name start
-      first begins new events begun execution (first ∷ begun.others) found
-      (first_held (first ∷ begun.others) _ begun.held) (one.0, (one.1, stands.1)) in
-      each_held h rooms disks outs errs crash_state only contents bytes name start first begins new
-      events begun execution (λ list. IsPrefix list found)
-      (OfHeard h p (cosign name file) (λ before run.
-      (signed : HasCosigned h p name file before run)
-      × (IsMtcSignature (signature_of signed.state signed.request)
-      × ((store : Store) (index : ℕ) (known : Known) (proof : ProofParts) (list : List SigParts)
-      → slice_get store.cosigners index ≡ Some known → known.id ≡ settings.id
-      → known.key ≡ public → is_named store.rules index ≡ true → store.log ≡ settings.log
-      → proof.start ≡ signed.request.start → proof.end ≡ signed.request.end
-      → AllByRecursion IsMtcSignature list → proof.signatures ≡ flat_map signature_text list
-      → Contains list (signature_of signed.state signed.request)
-      → is_in_set (counted store proof signed.request.hash) index ≡ true))))
-      (λ list held. held_prefix h rooms disks outs errs crash_state only contents bytes name start
-      first begins new events begun execution list found held (one.0, (one.1, stands.1)))
-      (λ old run is_modelled is_run prefixes spoken heard.
-      let command = cosign name file in
-      let s = heard_so h rooms disks outs errs old run command spoken is_modelled is_run heard
-      (CosignsSo h (rooms.file old) name file) (cosigned_so h (rooms.file old) name file) in
-      let r = s.request in
-      let state = s.found.state in
-      let list = s.found.records in
-      let are = file_bytes disks (rooms.file old name) (rooms.device old name) s.held bytes
-      (contents.0 old name is_modelled) s.there in
-      let held = found_stands (cosigner_fold h) s.held s.found are s.is_cosigner in
-      let asked = file_bytes disks (rooms.file old file) (rooms.device old file) s.bytes bytes
-      (contents.0 old file is_modelled) s.has_bytes.there in
-      let body = sign_record state.key.next r.start r.end r.hash r.proof in
-      let signs = sign_read h state r false (end_offset list) (few_keys h list state held.1)
-      (subtree_only s.bytes r asked s.asked).1 s.fits in
-      let did = did_so h rooms disks outs errs old run command spoken name (appended list body)
-      refl s.did in
-      let prefix = prefixes (list ++ body ∷ [])
-      (heard_held h rooms disks outs errs old run is_run heard name list body did) in
-      let begins_with = begins_so h list body first prefix.0 begun.others whole.0 found state held.1
-      prefix.1 whole.1 in
-      let first_bytes = first_are_bytes s.held first begins_with.0 are
-      (subst (λ (l : List (List ℕ)). AreRecordsAt s.held 16 l) begins_with.1 held.0.holds) in
-      let made =
-      subst (λ (l : List (List ℕ)). cosigner_of h l ≡ Ok state) begins_with.1 held.1 in (
+  module _ (name : List ℕ) (start : PartyStart) (first : List ℕ) (begins new : R)
+      (events : List (FileEvent R O E))
+      (begun : IsBegun h (program h rooms disks outs errs) name start first begins events)
+      (execution : IsOwnExecution h rooms disks outs errs name begins events new)
+      (settings : CosignerSettings) (public : List ℕ) (is : start ≡ Cosigner settings public) where
+    abbrev Its' : Program
+    Its' = program h rooms disks outs errs
+
+    starts : StartsWith (Cosigner settings public) first
+    starts = subst (λ (n : PartyStart). StartsWith n first) is begun.starts
+
+    -- what a crash leaves in the end begins with all that was held
+    recovered : (found : List (List ℕ)) × (((list : List (List ℕ))
+        → WasHeld h Its' name begins events list → IsPrefix list found)
+        × IsPrefix (first ∷ begun.others) found)
+    recovered =
+        let own = first_own h rooms disks outs errs crash_state only contents bytes name
+        (first ∷ begun.others) begins events begun.held in
+        let one = (serves h rooms disks outs errs crash_state only contents bytes name
+        own).rooms.some new name
+        (modelled_then h rooms disks outs errs crash_state only contents bytes name start first
+        begins new events begun execution) in
+        let stands = crash_state_list h rooms disks outs errs crash_state only contents bytes name
+        start first begins new events begun execution one.0 one.1 in
+        let within = λ (list : List (List ℕ)) (held : WasHeld h Its' name begins events list).
+        held_prefix h rooms disks outs errs crash_state only contents bytes name start first begins
+        new events begun execution list stands.0 held (one.0, (one.1, stands.1)) in (
+          stands.0,
+          (
+            within,
+            within (first ∷ begun.others) (first_held (first ∷ begun.others) _ begun.held),
+          ),
+        )
+
+    -- a signature of a run that went out counts
+    counts_in : (old : R) (run : Run R O E) → rooms.is_modelled old
+        → IsRun h rooms disks outs errs old run → IsHeard outs run
+        → ((list : List (List ℕ)) → HasHeld h rooms disks outs errs name old run list
+        → IsPrefix list recovered.0) → CosignsOver h rooms disks outs errs name old run
+        → CountsInStores h Its' settings public name old run
+    counts_in old run is_modelled is_run heard prefixes over =
+        let signed = over.signed in
+        let list = signed.list in
+        let state = signed.state in
+        let r = signed.request in
+        let prefix = prefixes (list ++ signed.body ∷ [])
+        (heard_held h rooms disks outs errs old run is_run heard name list signed.body signed.did)
+        in
+        let begins_with = begins_so h list signed.body first prefix.0 begun.others
+        recovered.1.1.0 recovered.0 state signed.cosigner_is prefix.1 recovered.1.1.1 in
+        let are = file_bytes disks (rooms.file old name) (rooms.device old name) over.held bytes
+        (contents.0 old name is_modelled) over.there in
+        let first_bytes = first_are_bytes over.held first begins_with.0 are
+        (subst (λ (l : List (List ℕ)). AreRecordsAt over.held 16 l) begins_with.1 over.stands.holds)
+        in
+        let made = subst (λ (l : List (List ℕ)). cosigner_of h l ≡ Ok state) begins_with.1
+        signed.cosigner_is in
         record {
-          text = s.bytes;
-          has_text = record { there = s.has_bytes.there; few = s.has_bytes.few };
-          request = r;
-          asked = s.asked;
-          list = list;
-          state = state;
-          cosigner_is = held.1;
-          body = body;
-          did = did;
-          signs = signs;
-          printed = printed_so h rooms disks outs errs old run is_run heard
-              (plain_command h command spoken refl) (cosigned_text state r)
-              s.reply_is;
-        },
-        (
-          signature_is h settings public first begins_with.0 state r starts first_bytes made,
-          counts_so h settings public first begins_with.0 state r starts first_bytes made
-              (next_below h state false (end_offset list) r s.fits),
-        ),
-      ))
+          signed = signed;
+          form = signature_is h settings public first begins_with.0 state r starts first_bytes
+              made;
+          counts = counts_so h settings public first begins_with.0 state r starts first_bytes made
+              over.below;
+        }
+
+  pub signatures_count : ((b : List ℕ) → length (h b) ≡ 32)
+      → MirrorsAreSound h → PrintedSignaturesCount h (program h rooms disks outs errs)
+  signatures_count sized sound name start first begins new events begun execution settings public
+      is command signs =
+      let held = recovered name start first begins new events begun execution settings public is in
+      each_held h rooms disks outs errs crash_state only contents bytes name start first begins new
+      events begun execution (λ list. IsPrefix list held.0)
+      (OfHeard h (program h rooms disks outs errs) command
+      (CountsInStores h (program h rooms disks outs errs) settings public name)) held.1.0
+      (λ old run is_modelled is_run prefixes spoken heard. counts_in name start first begins new
+      events begun execution settings public is old run is_modelled is_run heard prefixes
+      (signing_printed h rooms disks outs errs contents bytes sized sound name command signs old run
+      is_modelled is_run spoken heard))

@@ -111,21 +111,21 @@ module _ {R S D O E : Type 0} (h : HashFunction) (rooms : Rooms R S D) (disks : 
         read_again h rooms disks outs errs crash_state only contents bytes name start first begins
         new
         events begun execution c (inr there) in
-        let opened = read_cosigner h start settings public c party.records is party.read in
+        let opened = read_cosigner h start settings public c party.0 is party.1.1 in
         let models_file = contents.0 new name is_modelled in
         let are = file_bytes disks (rooms.file new name) (rooms.device new name) c bytes models_file
         there in
-        let found : FoundCosigner = record { records = party.records; state = opened.0 } in
+        let found : FoundCosigner = record { records = party.0; state = opened.0 } in
         let stands = found_stands (cosigner_fold h) c found are opened.1 in
-        let again = export_again h c party.records opened.0 are stands.0 stands.1 in
-        let own = of_first h settings public first party.of_party.others opened.0
+        let again = export_again h c party.0 opened.0 are stands.0 stands.1 in
+        let own = of_first h settings public first party.1.0.others opened.0
         (subst (λ (n : PartyStart). StartsWith n first) is begun.starts)
-        (subst (λ (l : List (List ℕ)). cosigner_of h l ≡ Ok opened.0) party.of_party.is stands.1) in
+        (subst (λ (l : List (List ℕ)). cosigner_of h l ≡ Ok opened.0) party.1.0.is stands.1) in
         let same = same_found (cosigner_read h c) s.found found s.is_cosigner opened.1 in
         let meets = s.reply_is
         ∙ ap (λ (f : FoundCosigner). said Done (export_text f.state f.records)) same in
-        let text = export_text opened.0 party.records in
-        let recovered : IsRecovered h rooms disks outs errs name new party.records
+        let text = export_text opened.0 party.0 in
+        let recovered : IsRecovered h rooms disks outs errs name new party.0
         = (
           c,
           (
@@ -136,10 +136,10 @@ module _ {R S D O E : Type 0} (h : HashFunction) (rooms : Rooms R S D) (disks : 
           ),
         ) in
         record {
-          list = party.records;
+          list = party.0;
           recovered = recovered;
           was_read = did_so h rooms disks outs errs new run (export name) spoken name
-              (reads party.records) refl
+              (reads party.0) refl
               (s.did ∙ ap (λ (f : FoundCosigner). reads f.records ∷ []) same);
           state = opened.0;
           state_is = stands.1;
@@ -158,12 +158,12 @@ module _ {R S D O E : Type 0} (h : HashFunction) (rooms : Rooms R S D) (disks : 
               let prefix_is =
               held_prefix h rooms disks outs errs crash_state only contents bytes name start
               first
-              begins new events begun execution (record0 ∷ (prefix ++ body ∷ more)) party.records
+              begins new events begun execution (record0 ∷ (prefix ++ body ∷ more)) party.0
               held
               recovered in
               step_there prefix body (more ++ prefix_is.0) again.0 step
               (subst (λ (l : List (List ℕ)). steps_in l ≡ Some again.0)
-              (following_first record0 prefix more body prefix_is.0 party.records prefix_is.1)
+              (following_first record0 prefix more body prefix_is.0 party.0 prefix_is.1)
               again.1)
               says;
         }

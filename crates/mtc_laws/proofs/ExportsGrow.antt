@@ -18,7 +18,7 @@ use Rattle.mtc_laws.specs.ExportLaws.{ExportsOnlyGrow, HasExported, HasMoreThan}
 use Rattle.mtc_laws.specs.PrintLaws.{OfHeard}
 use Rattle.mtc_laws.proofs.Exports.{exports_hold}
 use Rattle.mtc_laws.proofs.Recovered.{each_held, held_prefix}
-use Rattle.mtc_laws.proofs.Secrets.{says_so}
+use Rattle.mtc_laws.proofs.Secrets.{exported}
 use Rattle.mtc_laws.proofs.HeardRuns.{heard_read}
 use Rattle.mtc_top.specs.Executions.{program, HasStreamed, Run, FileEvent}
 use Rattle.mtc_laws.proofs.Aliases.{IsRun, DidWith, HasHeld, IsHeard}
@@ -40,10 +40,8 @@ module _ {R S D O E : Type 0} (h : HashFunction) (rooms : Rooms R S D) (disks : 
         → IsPrefix list now.list)
         → HasMoreThan h (program h rooms disks outs errs) name old earlier new run
     has_more old earlier is_modelled is_run heard spoken prefixes =
-        let said = says_so h rooms disks outs errs crash_state only contents bytes old earlier
-        is_modelled
-        is_run heard
-        (export name) spoken in
+        let said = exported h rooms disks outs errs crash_state only contents bytes old earlier
+        is_modelled is_run heard name spoken in
         let list = said.0 in
         let state = said.1.0 in
         let prefix = prefixes list

@@ -24,15 +24,14 @@ use Rattle.mtc_command.specs.Answers.{tiles_name}
 use Rattle.mtc_command.specs.Made.{Journaled}
 use Rattle.mtc_command.specs.Served.{done_with}
 use Rattle.mtc_command.proofs.Made.{OnlyNow, ReadsCrashState}
-use Rattle.mtc_authority.specs.StoredTiles.{HasTilesOf}
 use Rattle.party_history.specs.Rules.{AreRecords}
 use Rattle.mtc_top.specs.Executions.{owner, program}
 use Rattle.mtc_top.specs.Facts.{facts}
-use Rattle.mtc_laws.specs.TileLaws.{tiled_log}
+use Rattle.mtc_laws.specs.TileLaws.{HasPartyTiles, tiled_journal}
 use Rattle.mtc_laws.proofs.Leaves.{serves}
 use Rattle.mtc_laws.proofs.LogLeaves.{serves_log}
 use Rattle.mtc_laws.proofs.Aliases.{ModelsFiles}
-use Rattle.mtc_laws.specs.Killed.{DiesOverFuses, JournalsMayBreak, LogsMayBreak}
+use Rattle.mtc_laws.specs.Killed.{DiesOverFuses, JournalsMayBreak, TiledJournalsMayBreak}
 
 -- ---- any files
 
@@ -44,8 +43,8 @@ module _ {R S D O E : Type 0} (h : HashFunction) (rooms : Rooms R S D) (disks : 
   journals_may_break name own = journal_breaks (program h rooms disks outs errs) (AreRecords h) name
       (serves h rooms disks outs errs crash_state only contents bytes name own)
 
-  pub logs_may_break : LogsMayBreak h (program h rooms disks outs errs)
-  logs_may_break name own = log_runs_break (program h rooms disks outs errs) (HasTilesOf h)
+  pub logs_may_break : TiledJournalsMayBreak h (program h rooms disks outs errs)
+  logs_may_break name own = log_runs_break (program h rooms disks outs errs) (HasPartyTiles h)
       (λ list body. ⊥) (AreRecords h) name (tiles_name name) (λ old run. stored)
       (serves_log h rooms disks outs errs crash_state only contents bytes name own)
 
@@ -73,7 +72,7 @@ module _ {O E : Type 0} (h : HashFunction) (outs : Sinks O) (errs : Sinks E) whe
   Half did = Leads (AreRecords h) (broke did)
 
   abbrev Both : Journaled → CrashStates → CrashStates → CrashStates → CrashStates → Type 0
-  Both did = LogLeads (HasTilesOf h) (λ list body. ⊥) (AreRecords h) (broke_log did stored)
+  Both did = LogLeads (HasPartyTiles h) (λ list body. ⊥) (AreRecords h) (broke_log did stored)
 
   half_inside : (did : Journaled) (before now : Option MemDisk)
       → Half did (over_fuse before) (over_fuse now) → Half did (inside before) (inside now)
@@ -106,9 +105,9 @@ module _ {O E : Type 0} (h : HashFunction) (outs : Sinks O) (errs : Sinks E) whe
             (half_inside (did run.words) before now (breaks name own old run tt is)),
       )
 
-  pub logs_die : LogsMayBreak h (program h fused_rooms fuses outs errs) → (name : Text)
+  pub logs_die : TiledJournalsMayBreak h (program h fused_rooms fuses outs errs) → (name : Text)
       → is_tiles_name name ≡ false → DiesOverFuses h fused_rooms fuses mem_rooms mem_disks outs errs
-      (tiled_log h (program h mem_rooms mem_disks outs errs) name)
+      (tiled_journal h (program h mem_rooms mem_disks outs errs) name)
   logs_die breaks name own old run killed is same =
       let before = disk_in (inner_room old) name in
       let tiles = disk_in (inner_room old) (tiles_name name) in

@@ -23,7 +23,7 @@ use Rattle.mtc_words.specs.Words.{command_of, known_word}
 use Rattle.mtc_command.specs.Made.{HasKept, HasMade, Journaled, Kept, Leaves, MayHaveMade, appended}
 use Rattle.mtc_command.specs.Made.{device_contents, reads, started, untouched}
 use Rattle.mtc_command.specs.Served.{IsOther, Journals, LeavesEach}
-use Rattle.mtc_command.specs.Valid.{LeavesValid}
+use Rattle.mtc_command.specs.Valid.{AddsValid, LeavesValid}
 use Rattle.mtc_command.proofs.Made.{OnlyNow, ReadsCrashState}
 use Rattle.mtc_command.proofs.Served.{other_both}
 use Rattle.party_history.specs.Rules.{AreRecords}
@@ -31,7 +31,8 @@ use Rattle.mtc_top.specs.Facts.{facts}
 use Rattle.mtc_laws.proofs.Beside.{IsOwn, journal_own, none_beside, own_place}
 use Rattle.mtc_laws.proofs.Commands.{spoken_records}
 use Rattle.mtc_laws.proofs.HeardBytes.{ended_whole, unheard, unheard_broke}
-use Rattle.mtc_laws.proofs.Opened.{Finds, IsFound, IsNewAt, spoken_finds, spoken_new}
+use Rattle.mtc_laws.proofs.Opened.{Finds, IsFound, IsNewAt, SpokenKeeps, spoken_finds}
+use Rattle.mtc_laws.proofs.Opened.{spoken_keeps, spoken_new}
 use Rattle.mtc_top.proofs.Runs.{ended, not5_of, not8_of}
 use Rattle.mtc_top.specs.Executions.{program, Run, FileEvent}
 use Rattle.mtc_laws.specs.RunLaws.{AreAmong}
@@ -117,14 +118,11 @@ module _ {R S D O E : Type 0} (h : HashFunction) (rooms : Rooms R S D) (disks : 
   abbrev Done' : List ℕ → R → Run R O E → Journaled
   Done' name old run = done_to rooms.leads_to (Js old run) name
 
-  abbrev pub Rules : Run R O E → List (List ℕ) → Type 0
-  Rules run = (facts h (command_of run.words)).Valid
-
-  -- ---- a run that worked on the journal, by rules that follow from those of its command
+  -- ---- a run that worked on the journal, by rules that its records follow
 
   module _ (name : List ℕ) (old : R) (run : Run R O E) (is_modelled : rooms.is_modelled old)
       (is_run : IsRun h rooms disks outs errs old run) (Valid : List (List ℕ) → Type 0)
-      (keeps : (list : List (List ℕ)) → Rules run list → Valid list) where
+      (keeps : SpokenKeeps h Valid (command_of run.words)) where
     abbrev Before : CrashStates
     Before = crash_states_in h rooms disks outs errs old name
 
@@ -151,21 +149,20 @@ module _ {R S D O E : Type 0} (h : HashFunction) (rooms : Rooms R S D) (disks : 
     reported c there = modelled_file disks (rooms.file old name) (rooms.device old name)
         (contents.0 old name is_modelled) ∙ there
 
-    pub found : (list : List (List ℕ)) → IsFound (Rules run) (rooms.file old name) list
+    pub found : (list : List (List ℕ)) → IsFound Valid (rooms.file old name) list
         → WasFound Valid Before list
     found list is = record {
       bytes = is.bytes;
       state = contents_crash_state disks (rooms.device old name) is.bytes crash_state
           (reported is.bytes is.there);
       stands = is.stands;
-      valid = keeps list is.valid;
+      valid = is.valid;
     }
 
     pub may_append : (list : List (List ℕ)) (body : List ℕ)
-        → IsFound (Rules run) (rooms.file old name) list → Rules run (list ++ body ∷ [])
+        → IsFound Valid (rooms.file old name) list → Valid (list ++ body ∷ [])
         → MayAppend Valid list body Before
-    may_append list body is valid =
-        record { found = found list is; valid = keeps (list ++ body ∷ []) valid }
+    may_append list body is valid = record { found = found list is; valid = valid }
 
     pub empty_before : (body : List ℕ) → IsNewAt (rooms.file old) name (started body)
         → NoNew (λ c. c ≡ []) Before
@@ -177,10 +174,10 @@ module _ {R S D O E : Type 0} (h : HashFunction) (rooms : Rooms R S D) (disks : 
 
     -- an added record follows the rules: the journal can't be as it was
     added_valid : (list : List (List ℕ)) (body : List ℕ)
-        → IsFound (Rules run) (rooms.file old name) list
-        → LeavesValid rooms disks (Rules run) old run.room name (appended list body)
+        → IsFound Valid (rooms.file old name) list
+        → LeavesValid rooms disks Valid old run.room name (appended list body)
         → ((c : List ℕ) → Now c → Represents c (list ++ body ∷ []))
-        → Rules run (list ++ body ∷ [])
+        → Valid (list ++ body ∷ [])
     added_valid list body is valid now = elim valid [
       | inl kept ↦ absurd (one_longer list body (one_list is.bytes list (list ++ body ∷ [])
           is.stands (now is.bytes
@@ -190,8 +187,8 @@ module _ {R S D O E : Type 0} (h : HashFunction) (rooms : Rooms R S D) (disks : 
     ]
 
     made_valid : (body : List ℕ) → NoNew (λ c. c ≡ []) Before
-        → LeavesValid rooms disks (Rules run) old run.room name (started body)
-        → ((c : List ℕ) → Now c → Represents c (body ∷ [])) → Rules run (body ∷ [])
+        → LeavesValid rooms disks Valid old run.room name (started body)
+        → ((c : List ℕ) → Now c → Represents c (body ∷ [])) → Valid (body ∷ [])
     made_valid body empty valid now = elim valid [
       | inl kept ↦ absurd (no_records some.0 (body ∷ [])
           (empty some.0 (kept.0.crash_states.now_is some.0 some.1)) (now some.0 some.1))
@@ -216,9 +213,9 @@ module _ {R S D O E : Type 0} (h : HashFunction) (rooms : Rooms R S D) (disks : 
     -- by what the run knows of the journal
     module _ (did : Journaled) where
       pub record Knows : Type 0 where
-        pub finds : Finds (Rules run) (rooms.file old name) did
+        pub finds : Finds Valid (rooms.file old name) did
         pub is_new : IsNewAt (rooms.file old) name did
-        pub valid : LeavesValid rooms disks (Rules run) old run.room name did
+        pub valid : LeavesValid rooms disks Valid old run.room name did
 
     -- it came to its end
     done : (did : Journaled) → Knows did → HasMade did Before Now Between
@@ -231,7 +228,7 @@ module _ {R S D O E : Type 0} (h : HashFunction) (rooms : Rooms R S D) (disks : 
     )
     done (started body) knows made =
         let empty = empty_before body knows.is_new in
-        (empty, (keeps (body ∷ []) (made_valid body empty knows.valid made), made))
+        (empty, (made_valid body empty knows.valid made, made))
 
     done_then : (did : Journaled) → Knows did → HasMade did Before Now Between → (c : List ℕ)
         → Between c → Left c did
@@ -269,18 +266,33 @@ module _ {R S D O E : Type 0} (h : HashFunction) (rooms : Rooms R S D) (disks : 
     ]
     half_then (started body) knows made c at = inr (empty_before body knows.is_new)
 
+    -- the record that is added follows the rules, where it follows those of the command
+    adds_so : (did : Journaled) → AddsValid (facts h (command_of run.words)).Valid did
+        → AddsValid Valid did
+    adds_so untouched adds = tt
+    adds_so (reads list) adds = tt
+    adds_so (appended list body) adds =
+        spoken_keeps h Valid (command_of run.words) keeps (list ++ body ∷ []) adds
+    adds_so (started body) adds =
+        spoken_keeps h Valid (command_of run.words) keeps (body ∷ []) adds
+
     -- by its status
     module _ (did : Journaled) (among : AreAmong (Js old run) name did) where
+      -- what the command has left by its own rules
+      pub left_valid : LeavesValid rooms disks (facts h (command_of run.words)).Valid old run.room
+          name did
+      left_valid = of_each (LeavesValid rooms disks (facts h (command_of run.words)).Valid old
+          run.room) (Js old run) name did (is_run.valid is_modelled) among
+
       pub knows : Knows did
       knows = record {
-        finds = of_each (λ n d. Finds (Rules run) (rooms.file old n) d) (Js old run) name did
-            (spoken_finds h (rooms.file old) (λ n c is. file_bytes disks (rooms.file old n)
+        finds = of_each (λ n d. Finds Valid (rooms.file old n) d) (Js old run) name did
+            (spoken_finds h (rooms.file old) Valid (λ n c is. file_bytes disks (rooms.file old n)
             (rooms.device old n) c bytes (contents.0 old n is_modelled) is)
-            (command_of run.words)) among;
+            (command_of run.words) keeps) among;
         is_new = of_each (IsNewAt (rooms.file old)) (Js old run) name did
             (spoken_new h (command_of run.words) (rooms.file old)) among;
-        valid = of_each (LeavesValid rooms disks (Rules run) old run.room) (Js old run) name did
-            (is_run.valid is_modelled) among;
+        valid = elim left_valid [ inl kept ↦ inl kept | inr adds ↦ inr (adds_so did adds) ];
       }
 
       abbrev Broken : Bool → Type 0
@@ -386,7 +398,7 @@ module _ {R S D O E : Type 0} (h : HashFunction) (rooms : Rooms R S D) (disks : 
 
   module _ (name : List ℕ) (old : R) (run : Run R O E) (is_modelled : rooms.is_modelled old)
       (is_run : IsRun h rooms disks outs errs old run) (Valid : List (List ℕ) → Type 0)
-      (keeps : (list : List (List ℕ)) → Rules run list → Valid list) where
+      (keeps : SpokenKeeps h Valid (command_of run.words)) where
     -- the journal that has the place of this name is that of another name
     abbrev GoesAt : Journaled → Option D → Option D → Type 0
     GoesAt did before now = Goes disks Valid (broke_off (program h rooms disks outs errs) run)
@@ -436,15 +448,16 @@ module _ {R S D O E : Type 0} (h : HashFunction) (rooms : Rooms R S D) (disks : 
         ((facts h (command_of run.words)).outcome (rooms.file old)).journals found.0
         (Done' name old run) found.1.1)
 
-    -- the records follow the rules of the command
-    pub held_rules : (list : List (List ℕ)) → rooms.is_modelled old
+    -- the records follow the rules that those of all its journals follow
+    pub held_rules : (Valid : List (List ℕ) → Type 0) → SpokenKeeps h Valid (command_of run.words)
+        → (list : List (List ℕ)) → rooms.is_modelled old
         → IsRun h rooms disks outs errs old run
-        → HasHeld h rooms disks outs errs name old run list → Rules run list
-    held_rules list is_modelled is_run held =
-        held_valid (Rules run) list ((owner_of h rooms disks outs errs name).run_event old run)
+        → HasHeld h rooms disks outs errs name old run list → Valid list
+    held_rules Valid keeps list is_modelled is_run held =
+        held_valid Valid list ((owner_of h rooms disks outs errs name).run_event old run)
         (crash_states_in h rooms disks outs errs old name)
         (crash_states_in h rooms disks outs errs run.room name) held
-        (leaves name old run is_modelled is_run (Rules run) (λ l is. is)
+        (leaves name old run is_modelled is_run Valid keeps
         (none_beside rooms.leads_to h (command_of run.words) name (held_own list held))).leads
 
   -- in an execution the first run has such a name

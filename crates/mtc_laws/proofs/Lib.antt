@@ -15,6 +15,8 @@ pub mod Convicted
 pub mod Printed
 pub mod Secrets
 pub mod ExportsGrow
+pub mod AskedSteps
+pub mod MisreadBoth
 pub mod PrintedStands
 pub mod Misread
 pub mod Together

@@ -1,5 +1,5 @@
--- Status 2 after an execution is about an input, or a tile that the file of a log's tiles doesn't
--- have.
+-- Status 2 after an execution is about an input, or a tile that the file of a journal's tiles
+-- doesn't have.
 use Rattle.std.proofs.Common.{◌≡◌, inl, inr, ℕ, List, [], ◌∷◌, Option, None, Some}
 use Rattle.std.proofs.Common.{Result, Ok, Err, IsOk, refl, sym, subst, ◌∙◌, arith}
 use Rattle.std.proofs.lemmas.Option.{same_Some}
@@ -16,6 +16,12 @@ use Rattle.mtc_words.specs.Commands.{CommandValue}
 use Rattle.mtc_words.specs.Words.{command_of, known_word}
 use Rattle.mtc_words.specs.declared.error.WordError.{WordError}
 use Rattle.cosigner_core.specs.Folds.{cosigner_fold}
+use Rattle.mirror_core.specs.Folds.{MirrorState, entries_in_mirror, mirror_fold}
+use Rattle.issuance_log.specs.Folds.{LogState}
+use Rattle.mtc_mirror.specs.Works.{first_bad_in_mirror}
+use Rattle.mtc_tiled.specs.BadTiles.{first_bad_tile}
+use Rattle.tree_core.specs.Tree.{leaf_hash}
+use Rattle.std.specs.Prelude.{map}
 use Rattle.issuance_log.specs.Folds.{log_fold}
 use Rattle.mtc_command.specs.Answers.{Reply, bad_tile_text, err_of, refused, tiles_name}
 use Rattle.mtc_command.specs.Lines.{line_of}
@@ -31,12 +37,13 @@ use Rattle.command_plans.specs.Plans.{Journal, makes, opens}
 use Rattle.command_plans.specs.Rules.{AreOfFirst, AreOfKind}
 use Rattle.command_plans.proofs.Facts.{misread_about}
 use Rattle.mtc_plans.specs.Commands.{plan_of}
-use Rattle.mtc_plans.specs.PartyKinds.{PartyKind, cosigner, log, rebuilt_log, missing_text}
+use Rattle.mtc_plans.specs.PartyKinds.{PartyKind, cosigner, log, mirror, missing_text}
+use Rattle.mtc_plans.specs.PartyKinds.{rebuilt_log}
 use Rattle.mtc_plans.specs.PartyKinds.{party_fold}
 use Rattle.mtc_plans.specs.PartyKinds.{party_kinds}
 use Rattle.party_history.specs.Rules.{IsReadAs}
 use Rattle.party_history.specs.declared.start.PartyStart.{PartyStart}
-use Rattle.party_history.specs.declared.start.PartyStart.TheVariants.{Cosigner, Log}
+use Rattle.party_history.specs.declared.start.PartyStart.TheVariants.{Cosigner, Log, Mirror}
 use Rattle.party_history.proofs.Chains.{no_some}
 use Rattle.mtc_top.specs.Concluded.{Reports}
 use Rattle.mtc_laws.specs.ExecutionLaws.{AreOfParty}
@@ -74,6 +81,19 @@ none_refused k files [] file reason none any = any
 none_refused k files (opens kind beside name ∷ rest) file reason none any = cc
 none_refused k files (makes kind name ∷ rest) file reason none any = cc
 
+-- the tile that a log or a mirror lacks
+log_lacks : (h : HashFunction) (s : LogState) (tiles : List ℕ) (tile : ℕ × ℕ)
+    → first_bad h s tiles ≡ Some tile
+    → first_bad_tile h (map (leaf_hash h) s.entries) s.tiled tiles ≡ Some tile
+unfolding first_bad
+log_lacks h s tiles tile is = is
+
+mirror_lacks : (h : HashFunction) (m : MirrorState) (tiles : List ℕ) (tile : ℕ × ℕ)
+    → first_bad_in_mirror h m tiles ≡ Some tile
+    → first_bad_tile h (map (leaf_hash h) (entries_in_mirror m)) m.tiled tiles ≡ Some tile
+unfolding first_bad_in_mirror
+mirror_lacks h m tiles tile is = is
+
 -- ---- a journal that represents the records of a party
 
 module _ (h : HashFunction) (start : PartyStart) (first name : List ℕ) (files : Files)
@@ -90,8 +110,8 @@ module _ (h : HashFunction) (start : PartyStart) (first name : List ℕ) (files 
       let made = made_so (state_after (party_fold h kind) s.0) (keeps s.0 s.1.1) in
       subst IsOk (sym (read_standing (party_fold h kind) c s.0 made.0 s.1.0 made.1)) refl
 
-  -- only a log has a file beside it
-  of_tiles : (kind : PartyKind) (file reason : List ℕ)
+  -- only a log and a mirror have a file beside them
+  pub of_tiles : (kind : PartyKind) (file reason : List ℕ)
       → IsLacking (party_kinds h) files kind name file reason → LacksTile h files name file reason
   of_tiles log file reason wants =
       let found = wants.found in
@@ -100,12 +120,33 @@ module _ (h : HashFunction) (start : PartyStart) (first name : List ℕ) (files 
       missing_tile (first_bad h found.state (held_in (files file))) reason wants.lacks in
       record {
         bytes = wants.bytes;
-        found = found;
+        leaves = map (leaf_hash h) found.state.entries;
+        tiled = found.state.tiled;
         missing = tile.0;
         there = wants.there;
-        log_is = wants.is;
-        lacks = subst (λ (n : List ℕ).
-            first_bad h found.state (held_in (files n)) ≡ Some tile.0) (sym named) tile.1.0;
+        is_read = inl (found, (wants.is, refl, refl));
+        lacks = log_lacks h found.state (held_in (files (tiles_name name))) tile.0
+            (subst (λ (n : List ℕ). first_bad h found.state (held_in (files n)) ≡ Some tile.0)
+            (sym named) tile.1.0);
+        named = sym named;
+        says = tile.1.1;
+      }
+  of_tiles mirror file reason wants =
+      let found = wants.found in
+      let named : tiles_name name ≡ file = same_Some (tiles_name name) file wants.beside in
+      let tile = missing_tile (first_bad_in_mirror h found.state (held_in (files file))) reason
+      wants.lacks in
+      record {
+        bytes = wants.bytes;
+        leaves = map (leaf_hash h) (entries_in_mirror found.state);
+        tiled = found.state.tiled;
+        missing = tile.0;
+        there = wants.there;
+        is_read = inr (found, (wants.is, refl, refl));
+        lacks = mirror_lacks h found.state (held_in (files (tiles_name name))) tile.0
+            (subst (λ (n : List ℕ).
+            first_bad_in_mirror h found.state (held_in (files n)) ≡ Some tile.0) (sym named)
+            tile.1.0);
         named = sym named;
         says = tile.1.1;
       }
@@ -137,12 +178,14 @@ module _ (h : HashFunction) (start : PartyStart) (first name : List ℕ) (files 
       (no_more journal name (journal_names rest) named) any)
 
 -- a file that is read as a party's
-stands_of : (h : HashFunction) (start : PartyStart) (c : List ℕ) (list : List (List ℕ))
+pub stands_of : (h : HashFunction) (start : PartyStart) (c : List ℕ) (list : List (List ℕ))
     → IsBytes c → IsReadAs h start c list → Represents c list
 stands_of h (Log settings) c list are read =
     (found_stands (log_fold h) c (record { records = list; state = read.0 }) are read.1).0
 stands_of h (Cosigner settings public) c list are read =
     (found_stands (cosigner_fold h) c (record { records = list; state = read.0 }) are read.1).0
+stands_of h (Mirror id) c list are read =
+    (found_stands (mirror_fold h) c (record { records = list; state = read.0 }) are read.1).0
 
 module _ {R S D O E : Type 0} (h : HashFunction) (rooms : Rooms R S D) (disks : Disks D)
     (outs : Sinks O) (errs : Sinks E) (crash_state : ReadsCrashState disks) (only : OnlyNow disks)
@@ -157,7 +200,7 @@ module _ {R S D O E : Type 0} (h : HashFunction) (rooms : Rooms R S D) (disks : 
       subst (λ (r : Reply). Reports errs run.err run.err_after
       (err_of (known_word run.words) r)) is line
 
-  about_input : (name : List ℕ) (room : R) (command : CommandValue) (run : Run R O E)
+  pub about_input : (name : List ℕ) (room : R) (command : CommandValue) (run : Run R O E)
       → rooms.is_modelled room
       → IsRun h rooms disks outs errs room run → command_of run.words ≡ Ok command
       → run.status ≡ 2
@@ -201,5 +244,5 @@ module _ {R S D O E : Type 0} (h : HashFunction) (rooms : Rooms R S D) (disks : 
       new events begun execution c (inr is) in
       let are = file_bytes disks (rooms.file new name) (rooms.device new name) c bytes
       (contents.0 new name is_modelled) is in
-      (party.records, (stands_of h start c party.records are party.read, party.of_party)))
+      (party.0, (stands_of h start c party.0 are party.1.1, party.1.0)))
       (plan_of h command).journals file reason on.works on.kind any)

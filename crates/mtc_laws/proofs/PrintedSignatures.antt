@@ -1,7 +1,7 @@
 -- What cosigners printed meets the rules of a store.
 use Rattle.std.proofs.Common.{◌≡◌, ℕ, ◌+◌, ◌<◌, ◌≤◌, ◌==◌, ◌||◌, Bool, true, false, List, []}
 use Rattle.std.proofs.Common.{◌∷◌, ◌++◌, length, Some, refl, sym, subst, ap, ◌∙◌, arith}
-use Rattle.std.proofs.Common.{cond, zero, suc, get_or}
+use Rattle.std.proofs.Common.{cond, zero, suc, get_or, Ok, Option, Result, inl, inr, ◌⊎◌}
 use Rattle.std.proofs.Math.Bool.{or-true}
 use Rattle.std.proofs.lemmas.Bool.{eq-eqb}
 use Rattle.std.proofs.lemmas.List.Sums.{sum_by-cons}
@@ -34,9 +34,22 @@ use Rattle.mtc_top.specs.Executions.{IsBegun, Run, owner, program}
 use Rattle.mtc_laws.proofs.Audits.{printed_text}
 use Rattle.mtc_laws.proofs.HeardBytes.{done_heard}
 use Rattle.mtc_laws.specs.AcceptanceLaws.{HasCosignedAt, HaveCosigned}
-use Rattle.mtc_laws.specs.CountLaws.{signature_of}
+use Rattle.mtc_laws.specs.CountLaws.{signature_of, CountsInStores}
 use Rattle.mtc_laws.proofs.Counted.{signatures_count}
 use Rattle.mtc_laws.proofs.Aliases.{ModelsFiles}
+use Rattle.mtc_words.specs.Commands.{CommandValue, cosign, mirror_cosign}
+use Rattle.mtc_words.specs.Words.{command_of}
+use Rattle.mtc_words.specs.declared.error.WordError.{WordError}
+use Rattle.cosigner_core.specs.Folds.{CosignerState}
+use Rattle.mirror_core.specs.Folds.{entries_in_mirror}
+use Rattle.mirror_core.specs.Openings.{FoundMirror, mirror_read}
+use Rattle.mirror_core.specs.declared.error.MirrorOpenError.{MirrorOpenError}
+use Rattle.mirror_cosigner.specs.Requests.{subtree_by_mirror}
+use Rattle.tree_core.specs.Path.{part_of}
+use Rattle.tree_core.specs.Tree.{tree_hash}
+use Rattle.mtc_laws.specs.AuditLaws.{HoldsText}
+use Rattle.mtc_laws.specs.PrintLaws.{HasCosigned, Signs}
+use Rattle.mtc_laws.proofs.Printed.{MirrorsAreSound}
 
 -- ---- rules that are met
 
@@ -141,6 +154,84 @@ module _ (p : Program) where
     starts = is.starts;
   }
 
+-- ---- the request of a run
+
+module _ (r : Result CommandValue WordError) (name : Text) where
+  one_file : (file other : Text) → r ≡ Ok (cosign name file) → r ≡ Ok (cosign name other)
+      → file ≡ other
+  one_file file other one two = cc
+
+  not_both : (file mirror : Text) (start end : ℕ) → r ≡ Ok (cosign name file)
+      → r ≡ Ok (mirror_cosign name mirror start end) → ⊥
+  not_both file mirror start end one two = cc
+
+  one_interval : (mirror other : Text) (start end from to : ℕ)
+      → r ≡ Ok (mirror_cosign name mirror start end) → r ≡ Ok (mirror_cosign name other from to)
+      → (mirror ≡ other) × (start ≡ from) × (end ≡ to)
+  one_interval mirror other start end from to one two = (cc, cc, cc)
+
+module _ (h : HashFunction) (p : Program) (name : Text) (old : p.R) (run : Run p.R p.O p.E) where
+  abbrev files : Text → Option Text
+  files = p.rooms.file old
+
+  -- as a run that has cosigned has its request
+  abbrev Asked : CosignerState → SubtreeParts → Type 0
+  Asked state request = ((file : Text) × ((text : Text)
+      × ((command_of run.words ≡ Ok (cosign name file)) × HoldsText files file 16777216 text
+      × (subtree_in text ≡ Ok request))))
+      ⊎ ((mirror : Text) × ((start : ℕ) × ((end : ℕ) × ((held : Text) × ((found : FoundMirror)
+      × ((command_of run.words ≡ Ok (mirror_cosign name mirror start end))
+      × (files mirror ≡ Some held) × (mirror_read h held ≡ Ok found)
+      × (request ≡ subtree_by_mirror h found.state state.held start end)))))))
+
+  -- a run that has cosigned is by a command that signs
+  spoken_by : HasCosigned h p name old run → (command : CommandValue)
+      × (Signs name command × (command_of run.words ≡ Ok command))
+  spoken_by x = elim x.asked [
+    | inl a ↦ (cosign name a.0, (inl (a.0, refl), a.1.1.0))
+    | inr a ↦ (
+      mirror_cosign name a.0 a.1.0 a.1.1.0,
+      (inr (a.0, (a.1.0, (a.1.1.0, refl))), a.1.1.1.1.1.0),
+    )
+  ]
+
+  one_request : (s t : CosignerState) (r q : SubtreeParts) → Asked s r → Asked t q
+      → (r.start ≡ q.start) × (r.end ≡ q.end) × (r.hash ≡ q.hash)
+  one_request s t r q (inl a) (inl b) =
+      let file = one_file (command_of run.words) name a.0 b.0 a.1.1.0 b.1.1.0 in
+      let text : a.1.0 ≡ b.1.0 = same_Some a.1.0 b.1.0 (sym a.1.1.1.there ∙ ap files file
+      ∙ b.1.1.1.there) in
+      let same : r ≡ q = ok_is FormError r q (sym a.1.1.2 ∙ ap subtree_in text ∙ b.1.1.2) in (
+        ap (λ (x : SubtreeParts). x.start) same,
+        ap (λ (x : SubtreeParts). x.end) same,
+        ap (λ (x : SubtreeParts). x.hash) same,
+      )
+  one_request s t r q (inl a) (inr b) =
+      absurd (not_both (command_of run.words) name a.0 b.0 b.1.0 b.1.1.0 a.1.1.0 b.1.1.1.1.1.0)
+  one_request s t r q (inr a) (inl b) =
+      absurd (not_both (command_of run.words) name b.0 a.0 a.1.0 a.1.1.0 b.1.1.0 a.1.1.1.1.1.0)
+  one_request s t r q (inr a) (inr b) =
+      let x = a.1.1.1.1 in
+      let y = b.1.1.1.1 in
+      let asked = one_interval (command_of run.words) name a.0 b.0 a.1.0 a.1.1.0 b.1.0 b.1.1.0
+      x.1.0 y.1.0 in
+      let held : a.1.1.1.0 ≡ b.1.1.1.0 = same_Some a.1.1.1.0 b.1.1.1.0 (sym x.1.1
+      ∙ ap files asked.0 ∙ y.1.1) in
+      let found : x.0 ≡ y.0 = ok_is MirrorOpenError x.0 y.0 (sym x.1.2 ∙ ap (mirror_read h) held
+      ∙ y.1.2) in
+      let hash_of = λ (m : FoundMirror) (start end : ℕ). tree_hash h
+      (part_of (entries_in_mirror m.state) start end) in (
+        ap (λ (z : SubtreeParts). z.start) x.1.3 ∙ asked.1
+            ∙ sym (ap (λ (z : SubtreeParts). z.start) y.1.3),
+        ap (λ (z : SubtreeParts). z.end) x.1.3 ∙ asked.2
+            ∙ sym (ap (λ (z : SubtreeParts). z.end) y.1.3),
+        ap (λ (z : SubtreeParts). z.hash) x.1.3
+            ∙ ap (λ (m : FoundMirror). hash_of m a.1.0 a.1.1.0) found
+            ∙ ap (λ (n : ℕ). hash_of y.0 n a.1.1.0) asked.1
+            ∙ ap (λ (n : ℕ). hash_of y.0 b.1.0 n) asked.2
+            ∙ sym (ap (λ (z : SubtreeParts). z.hash) y.1.3),
+      )
+
 -- ---- the rules of a store
 
 module _ {R S D O E : Type 0} (h : HashFunction) (rooms : Rooms R S D) (disks : Disks D)
@@ -154,43 +245,54 @@ module _ {R S D O E : Type 0} (h : HashFunction) (rooms : Rooms R S D) (disks : 
   abbrev p : Program
   p = program h rooms disks outs errs
 
-  -- a cosigner who printed one counts
-  printed_counts : (index : ℕ) → HasCosignedAt h p store start end hash list index
-      → is_named store.rules index ≡ true → is_in_set (counted store proof hash) index ≡ true
-  printed_counts index x named =
-      let o = owner h p x.name in
-      let party = Cosigner x.settings x.public in
-      let all = signatures_count h rooms disks outs errs crash_state only contents bytes x.name
-      party x.first x.begins x.run.room (with_run p x.events x.run)
-      (more_begun p h x.name party x.first x.events x.begins x.run x.begun)
-      (more_execution p o x.events x.begins x.old x.run x.execution x.has_run) x.settings x.public
-      x.file refl in
-      let each_at = last_run p o _ x.events x.begins x.old x.run x.execution all in
-      let last = each_at x.spoken (done_heard x.run.status (outs.taken x.run.out)
-      (outs.taken x.run.out_after) x.written.done) in
-      let signed = last.0 in
-      let text : x.text ≡ signed.text =
-      same_Some x.text signed.text (sym x.has_text.there ∙ signed.has_text.there) in
-      let request : x.request ≡ signed.request =
-      ok_is FormError x.request signed.request (sym x.asked ∙ ap subtree_in text ∙ signed.asked) in
-      let printed = printed_text (outs.taken x.run.out) (outs.taken x.run.out_after)
-      x.written.before (signature_text x.signature)
-      (signature_text (signature_of signed.state signed.request))
-      x.written.contents x.written.printed (signed.printed.whole x.written.done) in
-      let same = one_signature x.signature (signature_of signed.state signed.request)
-      (one_among list x.signature each x.among) last.1.0 printed in
-      subst (λ (hash : Hash). is_in_set (counted store proof hash) index ≡ true)
-      (sym (ap (λ (r : SubtreeParts). r.hash) request) ∙ x.hash_is)
-      (last.1.1 store index x.known proof list x.there x.id_is x.key_is named x.log_is
-      (start_is ∙ sym x.start_is ∙ ap (λ (r : SubtreeParts). r.start) request)
-      (end_is ∙ sym x.end_is ∙ ap (λ (r : SubtreeParts). r.end) request) each encoded
-      (subst (Contains list) same x.among))
+  module _ (sized : (b : List ℕ) → length (h b) ≡ 32)
+      (sound : MirrorsAreSound h) (index : ℕ)
+      (x : HasCosignedAt h p store start end hash list index) where
+    -- the run signed what counts
+    signs_so : CountsInStores h p x.signer.settings x.signer.public x.signer.name x.signer.ends
+        x.run
+    signs_so =
+        let c = x.signer in
+        let o = owner h p c.name in
+        let party = Cosigner c.settings c.public in
+        let all = signatures_count h rooms disks outs errs crash_state only contents bytes sized
+        sound c.name party c.first c.begins x.run.room (with_run p c.events x.run)
+        (more_begun p h c.name party c.first c.events c.begins x.run c.begun)
+        (more_execution p o c.events c.begins c.ends x.run c.execution x.has_run) c.settings
+        c.public refl in
+        let heard = done_heard x.run.status (outs.taken x.run.out) (outs.taken x.run.out_after)
+        x.written.done in
+        let spoken = spoken_by h p c.name c.ends x.run x.signed in
+        last_run p o _ c.events c.begins c.ends x.run c.execution (all spoken.0 spoken.1.0)
+        spoken.1.1 heard
+
+    -- a cosigner who printed one counts
+    printed_counts : is_named store.rules index ≡ true
+        → is_in_set (counted store proof hash) index ≡ true
+    printed_counts named =
+        let last = signs_so in
+        let signed = last.signed in
+        let request = one_request h p x.signer.name x.signer.ends x.run x.signed.state signed.state
+        x.signed.request signed.request x.signed.asked signed.asked in
+        let printed = printed_text (outs.taken x.run.out) (outs.taken x.run.out_after)
+        x.written.before (signature_text x.signature)
+        (signature_text (signature_of signed.state signed.request))
+        x.written.contents x.written.printed (signed.printed.whole x.written.done) in
+        let same = one_signature x.signature (signature_of signed.state signed.request)
+        (one_among list x.signature each x.among) last.form printed in
+        subst (λ (hash : Hash). is_in_set (counted store proof hash) index ≡ true)
+        (sym request.2 ∙ x.hash_is)
+        (last.counts store index x.known proof list x.there x.id_is x.key_is named x.log_is
+        (start_is ∙ sym x.start_is ∙ request.0) (end_is ∙ sym x.end_is ∙ request.1) each encoded
+        (subst (Contains list) same x.among))
 
   -- so the rules are met
-  pub printed_satisfy : HaveCosigned h p store start end hash list → IsSatisfied store proof hash
-  printed_satisfy x = record {
+  pub printed_satisfy : ((b : List ℕ) → length (h b) ≡ 32)
+      → MirrorsAreSound h → HaveCosigned h p store start end hash list
+      → IsSatisfied store proof hash
+  printed_satisfy sized sound x = record {
     some = x.some;
     met = rules_met (counted store proof hash) x.has_signed store.rules store.rules
-        (λ index named signed. printed_counts index (x.each index signed) named) (λ n named. named)
-        x.met;
+        (λ index named signed. printed_counts sized sound index (x.each index signed) named)
+        (λ n named. named) x.met;
   }

@@ -6,7 +6,7 @@ use Rattle.file_events.specs.Executions.{IsPrefix}
 use Rattle.disk_core.specs.declared.disk.Disk.{Ghosts as Disks}
 use Rattle.mtc_io.specs.declared.sink.Sink.{Ghosts as Sinks}
 use Rattle.mtc_room.specs.declared.room.Room.{Ghosts as Rooms}
-use Rattle.mtc_words.specs.Commands.{cosign, issue, switch}
+use Rattle.mtc_words.specs.Commands.{issue, switch}
 use Rattle.issuance_log.specs.Folds.{log_of, view_in}
 use Rattle.issuance_log.specs.Records.{switch_record}
 use Rattle.party_history.proofs.Switches.{switch_added}
@@ -20,13 +20,15 @@ use Rattle.mtc_laws.proofs.Recovered.{log_recovered}
 use Rattle.mtc_laws.proofs.HeardRuns.{heard_held}
 use Rattle.mtc_laws.proofs.Aliases.{ModelsFiles}
 use Rattle.mtc_top.specs.Executions.{program, WasHeld}
+use Rattle.mtc_laws.proofs.Printed.{MirrorsAreSound}
 
 module _ {R S D O E : Type 0} (h : HashFunction) (rooms : Rooms R S D) (disks : Disks D)
     (outs : Sinks O) (errs : Sinks E) (crash_state : ReadsCrashState disks) (only : OnlyNow disks)
     (contents : ModelsFiles rooms disks)
     (bytes : (d : D) (b : List ℕ) → disks.contents d ≡ Some b → IsBytes b) where
-  pub signatures_stand : SignaturesStand h (program h rooms disks outs errs)
-  signatures_stand name start first begins new events begun execution file c at =
+  pub signatures_stand : ((b : List ℕ) → length (h b) ≡ 32) → MirrorsAreSound h
+      → SignaturesStand h (program h rooms disks outs errs)
+  signatures_stand sized sound name start first begins new events begun execution c at =
       let stands =
       crash_state_list h rooms disks outs errs crash_state only contents bytes name start first
       begins
@@ -35,22 +37,20 @@ module _ {R S D O E : Type 0} (h : HashFunction) (rooms : Rooms R S D) (disks : 
         found,
         (
           stands.1,
-          each_held h rooms disks outs errs crash_state only contents bytes name start first begins
-              new
-              events begun execution (λ list. IsPrefix list found)
-              (OfHeard h (program h rooms disks outs errs) (cosign name file) (λ old run.
-              (signed : HasCosigned h (program h rooms disks outs errs) name file old run)
+          λ command signs. each_held h rooms disks outs errs crash_state only contents bytes name
+              start first begins new events begun execution (λ list. IsPrefix list found)
+              (OfHeard h (program h rooms disks outs errs) command (λ old run.
+              (signed : HasCosigned h (program h rooms disks outs errs) name old run)
               × IsPrefix (signed.list ++ signed.body ∷ []) found))
               (λ list held. held_prefix h rooms disks outs errs crash_state only contents bytes name
               start
               first begins new events begun execution list found held (c, (at, stands.1)))
               (λ old run is_modelled is_run prefixes spoken heard.
-              let s = signatures_printed h rooms disks outs errs contents bytes name file old run
-              is_modelled
-              is_run spoken heard in (
-                s,
-                prefixes (s.list ++ s.body ∷ []) (heard_held h rooms disks outs errs old run is_run
-                    heard name s.list s.body s.did),
+              let signed = signatures_printed h rooms disks outs errs contents bytes sized sound
+              name command signs old run is_modelled is_run spoken heard in (
+                signed,
+                prefixes (signed.list ++ signed.body ∷ []) (heard_held h rooms disks outs errs old
+                    run is_run heard name signed.list signed.body signed.did),
               )),
         ),
       )

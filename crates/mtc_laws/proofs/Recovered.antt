@@ -26,20 +26,24 @@ use Rattle.issuance_log.specs.Folds.{LogState, log_of}
 use Rattle.issuance_log.specs.Settings.{Settings}
 use Rattle.issuance_log.proofs.After.{begins_so}
 use Rattle.mtc_command.proofs.Made.{OnlyNow, ReadsCrashState}
+use Rattle.mirror_core.specs.Folds.{MirrorState, mirror_of}
+use Rattle.mirror_core.proofs.After.{begins_so as mirror_begins}
 use Rattle.party_history.specs.Journals.{Continues, HasHistory}
 use Rattle.party_history.specs.Rules.{AreRecords, StartsWith, may_follow}
 use Rattle.party_history.specs.declared.start.PartyStart.{PartyStart}
-use Rattle.party_history.specs.declared.start.PartyStart.TheVariants.{Log, Cosigner}
+use Rattle.party_history.specs.declared.start.PartyStart.TheVariants.{Log, Cosigner, Mirror}
 use Rattle.party_history.proofs.Agreement.{agree, keys_of_valid, made_so, read, starts_so}
 use Rattle.party_history.proofs.Items.{item_added, items_kept}
 use Rattle.party_history.proofs.Keys.{one_record}
+use Rattle.party_history.proofs.Mirrors.{mirror_kept}
 use Rattle.party_history.proofs.Taking.{no_records, reaches_all, takes_steps}
-use Rattle.mtc_laws.specs.ExecutionLaws.{AddedEntriesStand, AreOfParty, IsReadAsParty}
+use Rattle.mtc_laws.specs.ExecutionLaws.{AddedEntriesStand, AreOfParty}
+use Rattle.party_history.specs.Rules.{IsReadAs}
 use Rattle.mtc_laws.specs.ExecutionLaws.{ExecutionsHaveHistories, EntriesStand, ReleasedStand}
 use Rattle.mtc_laws.specs.ExecutionLaws.{OfReleased, ReleasedWasHeld}
 use Rattle.mtc_laws.specs.ExecutionLaws.{JournalsAreOfParties, JournalsAreRead, KeysSignOnce}
 use Rattle.mtc_laws.specs.ExecutionLaws.{KeysSignOneMessage}
-use Rattle.mtc_laws.specs.ExecutionLaws.{RecoveredListsGrow}
+use Rattle.mtc_laws.specs.ExecutionLaws.{MirroredItemsStand, RecoveredListsGrow}
 use Rattle.mtc_laws.proofs.Commands.{spoken_records}
 use Rattle.mtc_laws.proofs.Leaves.{contents_crash_state, first_own, held_rules, modelled_file}
 use Rattle.mtc_laws.proofs.Leaves.{serves}
@@ -74,6 +78,18 @@ log_found h (Log settings') settings first list is begins of =
     (ap (λ (r : Result LogState ℕ). is_ok r) (begins_so h first settings' of.others begins)
     ∙ of.valid))
 log_found h (Cosigner settings' public) settings first list is begins of = absurd cc
+log_found h (Mirror log) settings first list is begins of = absurd cc
+
+-- a party that began as a mirror has one
+mirror_found : (h : HashFunction) (start : PartyStart) (log first : List ℕ)
+    (list : List (List ℕ)) → start ≡ Mirror log → StartsWith start first
+    → AreOfParty h start first list → (t : MirrorState) × (mirror_of h list ≡ Ok t)
+mirror_found h (Log settings) log first list is begins of = absurd cc
+mirror_found h (Cosigner settings public) log first list is begins of = absurd cc
+mirror_found h (Mirror log') log first list is begins of =
+    made_so (mirror_of h list) (subst (λ (l : List (List ℕ)). IsOk (mirror_of h l)) (sym of.is)
+    (ap (λ (r : Result MirrorState ℕ). is_ok r) (mirror_begins h first log' of.others begins)
+    ∙ of.valid))
 
 tail_is : (x y : List ℕ) (xs ys : List (List ℕ)) → x ∷ xs ≡ y ∷ ys → xs ≡ ys
 tail_is x y xs ys is = cc
@@ -130,7 +146,8 @@ module _ {R S D O E : Type 0} (h : HashFunction) (rooms : Rooms R S D) (disks : 
         (party found.0 b)
 
     pub read_file : (c : List ℕ) → crash_states_in h rooms disks outs errs new name c
-        ⊎ (rooms.file new name ≡ Some c) → IsReadAsParty h start first c
+        ⊎ (rooms.file new name ≡ Some c) → (records : List (List ℕ))
+        × (AreOfParty h start first records × IsReadAs h start c records)
     read_file c is =
         let b = durable.each c (elim is [
           | inl left ↦ left
@@ -138,13 +155,14 @@ module _ {R S D O E : Type 0} (h : HashFunction) (rooms : Rooms R S D) (disks : 
               (modelled_file disks (rooms.file new name) (rooms.device new name)
               (contents.0 new name modelled_then) ∙ there)
         ]) in
-        let of = party c b in
-        record {
-          records = first ∷ of.others;
-          of_party = record { others = of.others; is = refl; valid = of.valid };
-          read = read h start first of.others c begun.starts of.valid
-              (subst (Represents c) of.is b.stands);
-        }
+        let of = party c b in (
+          first ∷ of.others,
+          (
+            record { others = of.others; is = refl; valid = of.valid },
+            read h start first of.others c begun.starts of.valid
+                (subst (Represents c) of.is b.stands),
+          ),
+        )
 
     -- what was held is a prefix of what is recovered
     pub held_prefix : (list found : List (List ℕ))
@@ -339,6 +357,22 @@ module _ {R S D O E : Type 0} (h : HashFunction) (rooms : Rooms R S D) (disks : 
         ),
       )
 
+  pub mirrored_stand : MirroredItemsStand h (program h rooms disks outs errs)
+  mirrored_stand name start first begins new events begun execution log list found s is held mirror
+      recovered =
+      let t = mirror_found h start log first found is begun.starts
+      (party_list name start first begins new events begun execution found recovered) in
+      let prefix = held_prefix name start first begins new events begun execution list found held
+      recovered
+      in (
+        t.0,
+        (
+          t.1,
+          mirror_kept h list prefix.0 s t.0 mirror
+              (subst (λ (l : List (List ℕ)). mirror_of h l ≡ Ok t.0) (sym prefix.1) t.1),
+        ),
+      )
+
   -- records begin with a first one
   split : (list : List (List ℕ)) → AreRecords h list → (start : PartyStart) × ((first : List ℕ)
       × (StartsWith start first × AreOfParty h start first list))
@@ -361,7 +395,5 @@ module _ {R S D O E : Type 0} (h : HashFunction) (rooms : Rooms R S D) (disks : 
 
   pub of_parties : JournalsAreOfParties h (program h rooms disks outs errs)
   of_parties name old run list is_modelled is_run held =
-      split list (spoken_records h (command_of run.words) list
-      (held_rules h rooms disks outs errs crash_state only contents bytes name old run list
-      is_modelled
-      is_run held))
+      split list (held_rules h rooms disks outs errs crash_state only contents bytes name old run
+      (AreRecords h) (spoken_records h (command_of run.words)) list is_modelled is_run held)

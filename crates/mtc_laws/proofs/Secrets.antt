@@ -1,5 +1,6 @@
 -- What goes out of a command that is given a secret.
-use Rattle.std.proofs.Common.{◌≡◌, inl, ℕ, Bool, true, false, List, [], ◌∷◌, Option, None, Some}
+use Rattle.std.proofs.Common.{◌≡◌, ◌⊎◌, inl, inr, ℕ, Bool, true, false, List, [], ◌∷◌, length}
+use Rattle.std.proofs.Common.{Option, None, Some}
 use Rattle.std.proofs.Common.{Result, Ok, Err, refl, sym, subst, true≢false, option_map}
 use Rattle.byte_formats.specs.Offsets.{IsBytes}
 use Rattle.byte_formats.specs.Types.{HashFunction}
@@ -8,7 +9,7 @@ use Rattle.journal_core.proofs.Standing.{found_stands}
 use Rattle.mtc_io.specs.declared.sink.Sink.{Ghosts as Sinks}
 use Rattle.mtc_room.specs.declared.room.Room.{Ghosts as Rooms}
 use Rattle.mtc_words.specs.Commands.{CommandValue, advance, child, cosign, export, init_cosigner}
-use Rattle.mtc_words.specs.Commands.{keygen}
+use Rattle.mtc_words.specs.Commands.{keygen, mirror_advance, mirror_cosign}
 use Rattle.mtc_words.specs.Words.{command_of}
 use Rattle.mtc_words.specs.declared.error.WordError.{WordError}
 use Rattle.cosigner_core.specs.Children.{next_child}
@@ -22,43 +23,58 @@ use Rattle.mtc_command.proofs.Made.{OnlyNow, ReadsCrashState}
 use Rattle.mtc_cosigner.specs.CosignerOutcomes.{advanced_text, child_line}
 use Rattle.mtc_cosigner.specs.KeygenOutcome.{lms_type, ots_type, public_line}
 use Rattle.mtc_authority.specs.Works.{IsLog}
+use Rattle.mtc_mirror.specs.Works.{IsMirror}
 use Rattle.command_plans.specs.Plans.{Journal, makes, opens}
-use Rattle.command_plans.specs.Rules.{AreOfFirst}
 use Rattle.mtc_plans.specs.Commands.{plan_of, planned_outcome}
-use Rattle.mtc_plans.specs.Heard.{AdvancesSo, BeginsSo, ExportsSo, HasChildSo, KeysSo, OfSaid}
-use Rattle.mtc_plans.specs.PartyKinds.{cosigner, log, rebuilt_log, party_kinds}
+use Rattle.mtc_plans.specs.Heard.{AdvancesSo, BeginsSo, ExportsSo, HasChildSo, KeysSo}
+use Rattle.mtc_plans.specs.Heard.{MirrorAdvancesSo, OfSaid}
+use Rattle.mtc_plans.specs.PartyKinds.{cosigner, log, mirror, rebuilt_log, party_kinds}
 use Rattle.mtc_plans.specs.Words.{streams}
 use Rattle.mtc_plans.proofs.Heard.{advanced_so, begun_so, exported_so, has_child_so, keyed_so}
+use Rattle.mtc_plans.proofs.HeardOfBoth.{mirror_advanced_so}
 use Rattle.mtc_top.specs.Facts.{facts}
 use Rattle.mtc_laws.specs.PrintLaws.{OnlyCosignSigns, PrintsKey, Says}
 use Rattle.mtc_words.specs.Reasons.{word_fault_text}
-use Rattle.mtc_laws.proofs.Printed.{did_so, heard_so, signatures_printed}
+use Rattle.mtc_laws.proofs.Printed.{MirrorsAreSound, cosign_printed, did_so, heard_so}
+use Rattle.mtc_laws.proofs.Printed.{mirror_cosign_printed}
 use Rattle.mtc_laws.proofs.HeardRuns.{file_bytes, heard_run, held_rules, not_refused, printed_so}
 use Rattle.mtc_laws.proofs.HeardRuns.{streamed_so}
+use Rattle.mtc_laws.proofs.Opened.{EachKeeps, SpokenKeeps}
 use Rattle.mtc_laws.proofs.Streams.{plain_command}
 use Rattle.mtc_top.specs.Executions.{program, Run}
 use Rattle.mtc_laws.proofs.Aliases.{IsRun, HasHeld, IsHeard}
 use Rattle.mtc_laws.proofs.Aliases.{ModelsFiles}
 
--- each of these journals is a log's
-abbrev are_logs : (h : HashFunction) → List (Journal (party_kinds h)) → Bool
-are_logs h [] = true
-are_logs h (opens log beside name ∷ rest) = are_logs h rest
-are_logs h (opens rebuilt_log beside name ∷ rest) = are_logs h rest
-are_logs h (opens cosigner beside name ∷ rest) = false
-are_logs h (makes log name ∷ rest) = are_logs h rest
-are_logs h (makes rebuilt_log name ∷ rest) = are_logs h rest
-are_logs h (makes cosigner name ∷ rest) = false
+-- the records are those of a log or of a mirror, which have no key
+abbrev HasNoKey : HashFunction → List (List ℕ) → Type 0
+HasNoKey h list = IsLog h list ⊎ IsMirror h list
 
-first_log : (h : HashFunction) (journals : List (Journal (party_kinds h))) (list : List (List ℕ))
-    → are_logs h journals ≡ true → AreOfFirst (party_kinds h) journals list → IsLog h list
-first_log h [] list logs is = absurd is
-first_log h (opens log beside name ∷ rest) list logs is = is
-first_log h (opens rebuilt_log beside name ∷ rest) list logs is = is
-first_log h (opens cosigner beside name ∷ rest) list logs is = absurd (true≢false (sym logs))
-first_log h (makes log name ∷ rest) list logs is = is
-first_log h (makes rebuilt_log name ∷ rest) list logs is = is
-first_log h (makes cosigner name ∷ rest) list logs is = absurd (true≢false (sym logs))
+-- each of these journals is that of one
+abbrev have_no_key : (h : HashFunction) → List (Journal (party_kinds h)) → Bool
+have_no_key h [] = true
+have_no_key h (opens log beside name ∷ rest) = have_no_key h rest
+have_no_key h (opens rebuilt_log beside name ∷ rest) = have_no_key h rest
+have_no_key h (opens cosigner beside name ∷ rest) = false
+have_no_key h (opens mirror beside name ∷ rest) = have_no_key h rest
+have_no_key h (makes log name ∷ rest) = have_no_key h rest
+have_no_key h (makes rebuilt_log name ∷ rest) = have_no_key h rest
+have_no_key h (makes cosigner name ∷ rest) = false
+have_no_key h (makes mirror name ∷ rest) = have_no_key h rest
+
+each_keyless : (h : HashFunction) (journals : List (Journal (party_kinds h)))
+    → have_no_key h journals ≡ true → EachKeeps (party_kinds h) (HasNoKey h) journals
+each_keyless h [] none = tt
+each_keyless h (opens log beside name ∷ rest) none = (λ list is. inl is, each_keyless h rest none)
+each_keyless h (opens rebuilt_log beside name ∷ rest) none =
+    (λ list is. inl is, each_keyless h rest none)
+each_keyless h (opens cosigner beside name ∷ rest) none = absurd (true≢false (sym none))
+each_keyless h (opens mirror beside name ∷ rest) none =
+    (λ list is. inr is, each_keyless h rest none)
+each_keyless h (makes log name ∷ rest) none = (λ list is. inl is, each_keyless h rest none)
+each_keyless h (makes rebuilt_log name ∷ rest) none =
+    (λ list is. inl is, each_keyless h rest none)
+each_keyless h (makes cosigner name ∷ rest) none = absurd (true≢false (sym none))
+each_keyless h (makes mirror name ∷ rest) none = (λ list is. inr is, each_keyless h rest none)
 
 module _ {R S D O E : Type 0} (h : HashFunction) (rooms : Rooms R S D) (disks : Disks D)
     (outs : Sinks O) (errs : Sinks E) (crash_state : ReadsCrashState disks) (only : OnlyNow disks)
@@ -138,7 +154,7 @@ module _ {R S D O E : Type 0} (h : HashFunction) (rooms : Rooms R S D) (disks : 
           ),
         )
 
-    exported : (name : List ℕ) → Speaks (export name) → SaysSo (export name)
+    pub exported : (name : List ℕ) → Speaks (export name) → SaysSo (export name)
     exported name spoken =
         let s = by_text (export name) spoken (ExportsSo h (rooms.file old) name)
         (exported_so h (rooms.file old) name) in
@@ -159,39 +175,50 @@ module _ {R S D O E : Type 0} (h : HashFunction) (rooms : Rooms R S D) (disks : 
           ),
         )
 
-    -- the others open logs
-    logs : (command : CommandValue) → Speaks command
-        → are_logs h (plan_of h command).journals ≡ true → (name : List ℕ) (list : List (List ℕ))
-        → HasHeld h rooms disks outs errs name old run list → IsLog h list
-    logs command spoken are name list held =
-        first_log h (plan_of h command).journals list are
-        (subst (λ (r : Result CommandValue WordError). (facts h r).Valid list) spoken
-        (held_rules h rooms disks outs errs crash_state only contents bytes name old run list
-        is_modelled
-        is_run
-        held))
+    mirror_advanced : (name journal : List ℕ) (size : ℕ)
+        → Speaks (mirror_advance name journal size) → SaysSo (mirror_advance name journal size)
+    mirror_advanced name journal size spoken =
+        let s = by_text (mirror_advance name journal size) spoken
+        (MirrorAdvancesSo h (rooms.file old) name journal size)
+        (mirror_advanced_so h (rooms.file old) name journal size) in
+        printed_so h rooms disks outs errs old run is_run heard
+        (plain (mirror_advance name journal size) spoken refl) (advanced_text size) s.reply_is
 
-    pub says_so : (command : CommandValue) → Speaks command → SaysSo command
-    says_so (cosign name file) spoken =
-        signatures_printed h rooms disks outs errs contents bytes name file old run is_modelled
-        is_run
-        spoken
-        heard
-    says_so (advance name file) spoken = advanced name file spoken
-    says_so (child name) spoken = next_tree name spoken
-    says_so (export name) spoken = exported name spoken
-    says_so (init_cosigner name id log_id top low width file) spoken =
+    -- the others open logs and mirrors
+    keyless : (command : CommandValue) → Speaks command
+        → have_no_key h (plan_of h command).journals ≡ true → (name : List ℕ)
+        (list : List (List ℕ)) → HasHeld h rooms disks outs errs name old run list
+        → HasNoKey h list
+    keyless command spoken are name list held =
+        held_rules h rooms disks outs errs crash_state only contents bytes name old run (HasNoKey h)
+        (subst (λ (r : Result CommandValue WordError). SpokenKeeps h (HasNoKey h) r) (sym spoken)
+        (each_keyless h (plan_of h command).journals are)) list is_modelled is_run held
+
+    says_so : ((b : List ℕ) → length (h b) ≡ 32) → MirrorsAreSound h → (command : CommandValue)
+        → Speaks command → SaysSo command
+    says_so sized sound (cosign name file) spoken =
+        (cosign_printed h rooms disks outs errs contents bytes name file old run is_modelled is_run
+        spoken heard).signed
+    says_so sized sound (mirror_cosign name journal start end) spoken =
+        (mirror_cosign_printed h rooms disks outs errs contents bytes sized sound name journal start
+        end old run is_modelled is_run spoken heard).signed
+    says_so sized sound (mirror_advance name journal size) spoken =
+        mirror_advanced name journal size spoken
+    says_so sized sound (advance name file) spoken = advanced name file spoken
+    says_so sized sound (child name) spoken = next_tree name spoken
+    says_so sized sound (export name) spoken = exported name spoken
+    says_so sized sound (init_cosigner name id log_id top low width file) spoken =
         keys_printed top low width file
         (plain (init_cosigner name id log_id top low width file) spoken refl)
         (by_text (init_cosigner name id log_id top low width file)
         spoken (BeginsSo h (rooms.file old) name id log_id top low width file)
         (begun_so h (rooms.file old) name id log_id top low width file)).keys
-    says_so (keygen height width file) spoken =
+    says_so sized sound (keygen height width file) spoken =
         keys_printed height None width file (plain (keygen height width file) spoken refl)
         (by_text (keygen height width file) spoken
         (KeysSo (rooms.file old) height None width file)
         (keyed_so h (rooms.file old) height width file))
-    says_so other spoken = logs other spoken refl
+    says_so sized sound other spoken = keyless other spoken refl
 
     -- arguments that are no command are refused
     has_command : (r : Result CommandValue WordError) → command_of run.words ≡ r
@@ -204,7 +231,8 @@ module _ {R S D O E : Type 0} (h : HashFunction) (rooms : Rooms R S D) (disks : 
         Meets ((facts h r).outcome (rooms.file old)).answer run_so.reply) is
         (run_so.is (inl is_modelled))))
 
-  pub only_cosign : OnlyCosignSigns h (program h rooms disks outs errs)
-  only_cosign old run is_modelled is_run heard =
+  pub only_cosign : ((b : List ℕ) → length (h b) ≡ 32) → MirrorsAreSound h
+      → OnlyCosignSigns h (program h rooms disks outs errs)
+  only_cosign sized sound old run is_modelled is_run heard =
       let has = has_command old run is_modelled is_run heard (command_of run.words) refl in
-      (has.0, (has.1, says_so old run is_modelled is_run heard has.0 has.1))
+      (has.0, (has.1, says_so old run is_modelled is_run heard sized sound has.0 has.1))

@@ -28,17 +28,19 @@ use Rattle.tile_store.specs.Contents.{HoldsTiles, IsTile}
 use Rattle.tile_store.specs.Layout.{IsFull, tile_at}
 use Rattle.tree_core.specs.Tree.{leaf_hash}
 use Rattle.issuance_log.specs.Folds.{LogState, log_after, log_fold, new_log}
-use Rattle.issuance_log.specs.Openings.{HasItsTiles}
 use Rattle.issuance_log.specs.Settings.{Settings}
 use Rattle.issuance_log.proofs.After.{only_begins}
+use Rattle.mirror_core.specs.Folds.{MirrorState, entries_in_mirror, mirror_after, mirror_fold}
+use Rattle.mirror_core.specs.Folds.{new_mirror}
+use Rattle.mirror_core.proofs.After.{only_begins as mirror_begins}
 use Rattle.mtc_command.specs.Answers.{tiles_name}
 use Rattle.mtc_command.specs.Steps.{held_in}
 use Rattle.mtc_command.proofs.Made.{OnlyNow, ReadsCrashState}
-use Rattle.mtc_authority.specs.StoredTiles.{HasTilesOf}
-use Rattle.mtc_authority.proofs.BadTiles.{none_bad, none_full}
+use Rattle.mtc_tiled.specs.BadTiles.{first_bad_tile}
+use Rattle.mtc_tiled.proofs.BadTiles.{none_bad, none_full}
 use Rattle.mtc_authority.proofs.Both.{CountsNow}
 use Rattle.party_history.specs.Rules.{AreRecords}
-use Rattle.mtc_laws.specs.TileLaws.{NoTileIsBad, TilesSurviveStops, tiled_log}
+use Rattle.mtc_laws.specs.TileLaws.{HasPartyTiles, NoTileIsBad, TilesSurviveStops, tiled_journal}
 use Rattle.mtc_laws.proofs.Leaves.{contents_crash_state, first_own, modelled_file, serves}
 use Rattle.mtc_laws.proofs.LogLeaves.{serves_log}
 use Rattle.mtc_laws.proofs.Misread.{misread_inputs}
@@ -58,14 +60,33 @@ unfolding taken_from
 after_none h s t bodies none is =
     ok_is ℕ (new_log s) t (subst (λ (l : List Text). log_after h s l ≡ Ok t) (sym none) is)
 
-first_goes : (h : HashFunction) (first t : Text) → HasTilesOf h (first ∷ []) t
-first_goes h first t s made =
-    let begins = only_begins h (first ∷ []) s made in
-    let same = after_none h s.settings s begins.1.0
-    (no_rest first begins.0 begins.1.0 begins.1.1.0) begins.1.1.2 in
-    let none : 0 ≡ s.tiled = ap (λ (u : LogState). u.tiled) same in
-    λ level place full. absurd (none_full level place
-    (subst (λ (n : ℕ). IsFull n level place) (sym none) full))
+mirror_after_none : (h : HashFunction) (log : Text) (m : MirrorState) (bodies : List Text)
+    → [] ≡ bodies → mirror_after h log bodies ≡ Ok m → new_mirror log ≡ m
+unfolding taken_from
+mirror_after_none h log m bodies none is =
+    ok_is ℕ (new_mirror log) m
+    (subst (λ (l : List Text). mirror_after h log l ≡ Ok m) (sym none) is)
+
+-- a size of no tiles goes with any file
+none_held : (h : HashFunction) (leaves : List Hash) (tiled : ℕ) (t : Text) → 0 ≡ tiled
+    → HoldsTiles h leaves tiled t
+none_held h leaves tiled t none level place full =
+    absurd (none_full level place (subst (λ (n : ℕ). IsFull n level place) (sym none) full))
+
+first_goes : (h : HashFunction) (first t : Text) → HasPartyTiles h (first ∷ []) t
+first_goes h first t = (
+  λ s made.
+      let begins = only_begins h (first ∷ []) s made in
+      let same = after_none h s.settings s begins.1.0
+      (no_rest first begins.0 begins.1.0 begins.1.1.0) begins.1.1.2 in
+      none_held h (map (leaf_hash h) s.entries) s.tiled t (ap (λ (u : LogState). u.tiled) same),
+  λ m made.
+      let begins = mirror_begins h (first ∷ []) m made in
+      let same = mirror_after_none h m.log m begins.1.0
+      (no_rest first begins.0 begins.1.0 begins.1.1.0) begins.1.1.2 in
+      none_held h (map (leaf_hash h) (entries_in_mirror m)) m.tiled t
+      (ap (λ (u : MirrorState). u.tiled) same),
+)
 
 -- a run that held some records leaves these
 states_hold : (Valid : List Text → Type 0) (list : List Text) (did : Journaled)
@@ -88,9 +109,9 @@ event_holds Valid list (ran heard did) before now held happens =
 event_holds Valid list (broke did) before now held happens = absurd held
 
 first_go : (h : HashFunction) (first : Text) (journal tiles : CrashStates)
-    → StatesRepresent journal (first ∷ []) → Goes (HasTilesOf h) journal tiles
+    → StatesRepresent journal (first ∷ []) → Goes (HasPartyTiles h) journal tiles
 first_go h first journal tiles all c list at stands t there =
-    subst (λ (l : List Text). HasTilesOf h l t)
+    subst (λ (l : List Text). HasPartyTiles h l t)
     (one_list c (first ∷ []) list (all c at) stands) (first_goes h first t)
 
 -- ---- a file that has all tiles lacks none
@@ -105,10 +126,18 @@ tile_there h leaves t level place tile =
     let whole = tile.size in
     record { there = grind (arith, cut, rest, whole); tile = tile }
 
-pub has_its : (h : HashFunction) (s : LogState) (t : Text)
-    → HoldsTiles h (map (leaf_hash h) s.entries) s.tiled t → HasItsTiles h s t
-has_its h s t holds = λ level place new.
-    tile_there h (map (leaf_hash h) s.entries) t level place (holds level place new.full)
+none_lacks : (h : HashFunction) (leaves : List Hash) (tiled : ℕ) (t : Text)
+    → HoldsTiles h leaves tiled t → first_bad_tile h leaves tiled t ≡ None
+none_lacks h leaves tiled t holds = none_bad h leaves tiled t (λ level place new.
+    tile_there h leaves t level place (holds level place new.full))
+
+-- so it is of these leaf hashes and this size
+lacks_none : (h : HashFunction) (leaves others : List Hash) (tiled size : ℕ) (t : Text)
+    → leaves ≡ others → tiled ≡ size → HoldsTiles h others size t
+    → first_bad_tile h leaves tiled t ≡ None
+lacks_none h leaves others tiled size t one two holds =
+    ap (λ (l : List Hash). first_bad_tile h l tiled t) one
+    ∙ ap (λ (n : ℕ). first_bad_tile h others n t) two ∙ none_lacks h others size t holds
 
 -- the bytes of a file, or none, are one of its crash states
 held_crash_state : {D : Type 0} (g : Disks D) (file : Option Text) (x : Option D)
@@ -134,9 +163,10 @@ module _ {R S D O E : Type 0} (h : HashFunction) (rooms : Rooms R S D) (disks : 
       left d (disks.clock_at d) c (counts d (disks.clock_at d) c (omega arith) at)
 
   pub tiles_stay : TilesSurviveStops h (program h rooms disks outs errs)
-  tiles_stay name first old new [] is_modelled holds execution c t log at there read = absurd holds
-  tiles_stay name first old new (exited run ∷ events) is_modelled holds execution c t log at there
-      read =
+  tiles_stay name first old new [] is_modelled holds execution c t leaves tiled at there read =
+      absurd holds
+  tiles_stay name first old new (exited run ∷ events) is_modelled holds execution c t leaves tiled
+      at there read =
       let p = program h rooms disks outs errs in
       let own = first_own h rooms disks outs errs crash_state only contents bytes name (first ∷ [])
       old
@@ -151,23 +181,32 @@ module _ {R S D O E : Type 0} (h : HashFunction) (rooms : Rooms R S D) (disks : 
       let durable = held_durable (AreRecords h) (first ∷ []) event before now holds leads in
       let go = first_go h first now tiles
       (event_holds (AreRecords h) (first ∷ []) event before now holds leads.happens) in
-      let stay = tiles_survive p (HasTilesOf h) (λ list body. ⊥) (AreRecords h) name
+      let stay = tiles_survive p (HasPartyTiles h) (λ list body. ⊥) (AreRecords h) name
       (tiles_name name) (λ o r. stored)
       (serves_log h rooms disks outs errs crash_state only contents bytes name own)
       (λ list body b plain. absurd plain) (first ∷ []) run.room new events
       (execution.0.back.is_modelled is_modelled) execution.1 durable go in
-      let stands = found_stands (log_fold h) c log
-      (left_crash_state (rooms.device new name) c at) read in
-      none_bad h log.state t (has_its h log.state t
-      (stay c log.records at stands.0 t there log.state stands.1))
-  tiles_stay name first old new (other ∷ events) is_modelled holds execution c t log at there read =
+      let are = left_crash_state (rooms.device new name) c at in
+      elim read [
+        | inl x ↦
+            (let stands = found_stands (log_fold h) c x.0 are x.1.0 in
+            lacks_none h leaves (map (leaf_hash h) x.0.state.entries) tiled x.0.state.tiled t x.1.1
+            x.1.2 ((stay c x.0.records at stands.0 t there).0 x.0.state stands.1))
+        | inr x ↦
+            (let stands = found_stands (mirror_fold h) c x.0 are x.1.0 in
+            lacks_none h leaves (map (leaf_hash h) (entries_in_mirror x.0.state)) tiled
+            x.0.state.tiled t x.1.1 x.1.2
+            ((stay c x.0.records at stands.0 t there).1 x.0.state stands.1))
+      ]
+  tiles_stay name first old new (other ∷ events) is_modelled holds execution c t leaves tiled at
+      there read =
       absurd holds
 
   -- ---- an execution of both files is one of the journal
 
   event_so : (name : Text) (old : R) (event : FileEvent R O E)
       → IsFileEvent (program h rooms disks outs errs)
-      (tiled_log h (program h rooms disks outs errs) name) old event
+      (tiled_journal h (program h rooms disks outs errs) name) old event
       → IsFileEvent (program h rooms disks outs errs) (owner_of h rooms disks outs errs name) old
       event
   event_so name old (exited run) is = is
@@ -185,7 +224,7 @@ module _ {R S D O E : Type 0} (h : HashFunction) (rooms : Rooms R S D) (disks : 
 
   journal_execution : (name : Text) (events : List (FileEvent R O E)) (old new : R)
       → IsFileExecution (program h rooms disks outs errs)
-      (tiled_log h (program h rooms disks outs errs) name) old events new
+      (tiled_journal h (program h rooms disks outs errs) name) old events new
       → IsOwnExecution h rooms disks outs errs name old events new
   journal_execution name [] old new is = is
   journal_execution name (event ∷ events) old new is =
@@ -208,12 +247,12 @@ module _ {R S D O E : Type 0} (h : HashFunction) (rooms : Rooms R S D) (disks : 
         | inl named ↦ (is, named)
         | inr lacks ↦ absurd (no_none lacks.missing (sym (tiles_stay name first old new events
             is_modelled holds execution lacks.bytes (held_in (rooms.file new (tiles_name name)))
-            lacks.found
+            lacks.leaves lacks.tiled
             (contents_crash_state disks (rooms.device new name) lacks.bytes crash_state
             (modelled_file disks (rooms.file new name) (rooms.device new name)
             (contents.0 new name modelled) ∙ lacks.there))
             (held_crash_state disks (rooms.file new (tiles_name name))
             (rooms.device new (tiles_name name)) crash_state
             (contents.0 new (tiles_name name) modelled))
-            lacks.log_is) ∙ lacks.lacks))
+            lacks.is_read) ∙ lacks.lacks))
       ]

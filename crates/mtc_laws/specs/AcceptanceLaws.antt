@@ -1,5 +1,5 @@
 -- Which certificates are accepted: from the request and the signatures to the relying party.
-use Rattle.std.specs.Prelude.{◌≡◌, ◌⊎◌, ◌<◌, ◌≤◌, ◌≤ℤ◌, ◌++◌, ℕ, Bool, true, false, pos, List, []}
+use Rattle.std.specs.Prelude.{◌≡◌, ◌⊎◌, ◌<◌, ◌≤◌, ◌≤ℤ◌, ℕ, Bool, true, false, pos, List, []}
 use Rattle.std.specs.Prelude.{length, slice_get, Some, Ok}
 use Rattle.std.specs.List.{AllByRecursion, Contains, count_by}
 use Rattle.byte_formats.specs.Types.{Hash, HashFunction, Text}
@@ -13,29 +13,18 @@ use Rattle.policy_core.specs.Judgement.{form_by, is_in}
 use Rattle.policy_core.specs.declared.cosigners.Known.{Known}
 use Rattle.policy_core.specs.declared.store.Store.{Store}
 use Rattle.issuance_log.specs.Folds.{LogState, view_in}
-use Rattle.cosigner_core.specs.Reading.{subtree_in}
-use Rattle.cosigner_core.specs.Requests.{SubtreeParts}
-use Rattle.cosigner_core.specs.declared.settings.CosignerSettings.{CosignerSettings}
-use Rattle.party_history.specs.declared.start.PartyStart.TheVariants.{Cosigner}
 use Rattle.authority_core.specs.Certificates.{covering_in, proof_for}
-use Rattle.file_events.specs.Worlds.{EachRun, IsFileExecution, Program}
-use Rattle.mtc_words.specs.Commands.{cert, cosign, issue, light_cert}
+use Rattle.file_events.specs.Worlds.{EachRun, Program}
+use Rattle.mtc_words.specs.Commands.{cert, issue, light_cert}
 use Rattle.mtc_words.specs.Words.{command_of}
 use Rattle.mtc_laws.specs.AuditLaws.{HoldsText}
 use Rattle.mtc_laws.specs.ExecutionLaws.{OfExecutions}
-use Rattle.mtc_top.specs.Executions.{FileEvent, IsBegun, Run, owner}
-use Rattle.mtc_laws.specs.PrintLaws.{HasIssued, OfHeard}
+use Rattle.mtc_laws.specs.Cosigners.{CosignerExecution, HasWritten}
+use Rattle.mtc_top.specs.Executions.{Run}
+use Rattle.mtc_laws.specs.PrintLaws.{HasCosigned, HasIssued, OfHeard}
 use Rattle.mtc_laws.specs.CertLaws.{PrintsCertificate, HasVerified, PrintsAccepted}
 
 module _ (h : HashFunction) (p : Program) where
-  -- The run ended with status 0, and all that it printed is this text, over an output of which the
-  -- model knows what it took.
-  pub record HasWritten (run : Run p.R p.O p.E) (text : Text) : Type 0 where
-    pub done : run.status ≡ 0
-    pub before : Text
-    pub contents : p.outs.taken run.out ≡ Some before
-    pub printed : p.outs.taken run.out_after ≡ Some (before ++ text)
-
   -- ---- the certificate
 
   -- The run is one of `cert` or of `light-cert`, for the entry at this index of the log.
@@ -67,42 +56,27 @@ module _ (h : HashFunction) (p : Program) where
   -- ---- the signatures
 
   -- The store has a cosigner's id and public key at this index, and is for its log. After an
-  -- execution of that cosigner's journal a run of `cosign` printed one of these signatures, and its
-  -- request asked for one of this interval with this hash.
+  -- execution of that cosigner's journal a run of `cosign` or `mirror-cosign` printed one of these
+  -- signatures, over this interval with this hash.
   pub record HasCosignedAt (store : Store) (start end : ℕ) (hash : Hash) (list : List SigParts)
       (index : ℕ) : Type 0 where
-    -- a run made or opened the journal
-    pub name : Text
-    pub settings : CosignerSettings
-    pub public : Text
-    pub first : Text
-    pub begins : p.R
-    pub events : List (FileEvent p.R p.O p.E)
-    pub begun : IsBegun h p name (Cosigner settings public) first begins events
-    -- the execution
-    pub old : p.R
-    pub execution : IsFileExecution p (owner h p name) begins events old
-    -- the run of `cosign`
+    pub signer : CosignerExecution h p
+    -- the run that signed
     pub run : Run p.R p.O p.E
-    pub has_run : p.HasRun old run
-    pub file : Text
-    pub spoken : command_of run.words ≡ Ok (cosign name file)
-    pub text : Text
-    pub has_text : HoldsText (p.rooms.file old) file 16777216 text
-    pub request : SubtreeParts
-    pub asked : subtree_in text ≡ Ok request
-    pub start_is : request.start ≡ start
-    pub end_is : request.end ≡ end
-    pub hash_is : request.hash ≡ hash
+    pub has_run : p.HasRun signer.ends run
+    pub signed : HasCosigned h p signer.name signer.ends run
+    pub start_is : signed.request.start ≡ start
+    pub end_is : signed.request.end ≡ end
+    pub hash_is : signed.request.hash ≡ hash
     pub signature : SigParts
-    pub written : HasWritten run (signature_text signature)
+    pub written : HasWritten h p run (signature_text signature)
     pub among : Contains list signature
     -- the cosigner, as the store knows it
     pub known : Known
     pub there : slice_get store.cosigners index ≡ Some known
-    pub id_is : known.id ≡ settings.id
-    pub key_is : known.key ≡ public
-    pub log_is : store.log ≡ settings.log
+    pub id_is : known.id ≡ signer.settings.id
+    pub key_is : known.key ≡ signer.public
+    pub log_is : store.log ≡ signer.settings.log
 
   -- The store has rules, and in each of them as many cosigners as it asks for have done so.
   pub record HaveCosigned (store : Store) (start end : ℕ) (hash : Hash) (list : List SigParts)
@@ -118,7 +92,7 @@ module _ (h : HashFunction) (p : Program) where
   -- The store is for this log, and gives the index the form that the log gives it. It doesn't
   -- revoke the entry, and holds no other hash for the subtree of its certificate. It trusts the
   -- subtree with the log's hash; or its rules are met by the signatures, or by those of them that
-  -- runs of `cosign` printed.
+  -- runs of `cosign` and `mirror-cosign` printed.
   pub record Backs (s : LogState) (index : ℕ) (span : Span) (signatures : Text)
       (are : AreSignatures signatures) (store : Store) : Type 0 where
     pub log : store.log ≡ s.settings.id
@@ -153,7 +127,7 @@ module _ (h : HashFunction) (p : Program) where
   abbrev pub IssuedCertificatesAreAccepted : Type 0
   IssuedCertificatesAreAccepted = OfExecutions h p (λ name start first old events new.
       (index : ℕ) (run : Run p.R p.O p.E) (bytes : Text) → p.HasRun new run
-      → AsksForCertificate name index run → HasWritten run bytes
+      → AsksForCertificate name index run → HasWritten h p run bytes
       → (c : WritesCertificate name index new run)
       × ((file : Text)
       → EachRun p (OfHeard h p (issue name file) (IsAcceptedFor c bytes file)) old events))

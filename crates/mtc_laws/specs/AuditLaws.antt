@@ -1,15 +1,12 @@
 -- What `audit` prints of a certificate that was accepted by a landmark, or by a signature whose
 -- record a run of an execution of a cosigner's journal held.
-use Rattle.std.specs.Prelude.{◌≡◌, ◌≢◌, ◌⊎◌, ℕ, ◌≤◌, true, pos, List, ◌∷◌, ◌++◌, length, None}
+use Rattle.std.specs.Prelude.{◌≡◌, ◌≢◌, ◌⊎◌, ℕ, ◌≤◌, true, pos, length, None}
 use Rattle.std.specs.Prelude.{Some, IfSome, Ok, slice_get}
 use Rattle.byte_formats.specs.Types.{HashFunction, Text}
-use Rattle.file_events.specs.Worlds.{Program, IsFileExecution}
-use Rattle.mtc_words.specs.Commands.{audit, export}
+use Rattle.file_events.specs.Worlds.{Program}
+use Rattle.mtc_words.specs.Commands.{audit}
 use Rattle.mtc_words.specs.Words.{command_of}
 use Rattle.cosigner_core.specs.ExportReading.{export_in}
-use Rattle.cosigner_core.specs.Records.{step_in}
-use Rattle.cosigner_core.specs.declared.settings.CosignerSettings.{CosignerSettings}
-use Rattle.cosigner_core.specs.declared.step.Step.TheVariants.{Sign}
 use Rattle.entry_list.specs.Reading.{items_in}
 use Rattle.cosigner_steps.specs.Steps.{HasPrefix, held_by}
 use Rattle.policy_core.specs.Counting.{is_in_set}
@@ -17,14 +14,14 @@ use Rattle.policy_core.specs.Files.{store_of}
 use Rattle.policy_core.specs.declared.answer.By.TheVariants.{Cosigners, Landmark}
 use Rattle.policy_core.specs.declared.cosigners.Known.{Known}
 use Rattle.policy_core.specs.declared.store.Store.{Store}
-use Rattle.party_history.specs.declared.start.PartyStart.TheVariants.{Cosigner}
 use Rattle.world_core.specs.Audit.{AuditCase, HasInterval, HasOwn, firsts_of, foreign_of, has_own}
 use Rattle.world_core.specs.Audit.{seconds_of}
 use Rattle.mtc_command.specs.Steps.{Files}
 use Rattle.mtc_command.specs.Wanted.{IsPair}
 use Rattle.mtc_relying.specs.AuditOutcome.{collision_text, accepted_in, stands_text}
 use Rattle.mtc_top.specs.Concluded.{Prints}
-use Rattle.mtc_top.specs.Executions.{owner, WasHeld, IsBegun, Run, FileEvent}
+use Rattle.mtc_top.specs.Executions.{Run}
+use Rattle.mtc_laws.specs.Cosigners.{CosignerExecution, HasSignRecord, WasExported}
 
 -- The file of this name has this text, which is no longer than the limit.
 pub record HoldsText (files : Files) (name : Text) (limit : ℕ) (text : Text) : Type 0 where
@@ -63,39 +60,14 @@ module _ (h : HashFunction) (p : Program) where
   -- interval and hash, a run of `export` after it printed the export that is audited, and the store
   -- counts the cosigner.
   pub record IsSignedInExecution (x : AuditCase) (kept_text : Text) : Type 0 where
-    -- a run made or opened the journal
-    pub name : Text
-    pub settings : CosignerSettings
-    pub public : Text
-    pub first : Text
-    pub begins : p.R
-    pub events : List (FileEvent p.R p.O p.E)
-    pub begun : IsBegun h p name (Cosigner settings public) first begins events
-    -- the execution
-    pub old : p.R
-    pub execution : IsFileExecution p (owner h p name) begins events old
-    -- a record that a run of it found or added
-    pub prefix : List Text
-    pub more : List Text
-    pub body : Text
-    pub held : WasHeld h p name begins events (first ∷ (prefix ++ body ∷ more))
-    pub index : ℕ
-    pub proof : List Text
-    pub signs : step_in body
-        ≡ Some (Sign index x.accepted.start x.accepted.end x.accepted.hash proof)
-    -- the run of `export`, over an output of which the model knows what it took
-    pub run : Run p.R p.O p.E
-    pub has_run : p.HasRun old run
-    pub spoken : command_of run.words ≡ Ok (export name)
-    pub done : run.status ≡ 0
-    pub before : Text
-    pub contents : p.outs.taken run.out ≡ Some before
-    pub printed : p.outs.taken run.out_after ≡ Some (before ++ kept_text)
+    pub signer : CosignerExecution h p
+    pub signed : HasSignRecord h p signer x.accepted.start x.accepted.end x.accepted.hash
+    pub exported : WasExported h p signer kept_text
     -- The cosigner is one of those that the store counted, and of its log.
     pub set : ℕ
     pub by : x.accepted.by ≡ Cosigners set
-    pub counts : HasCounted x.store set settings.id public
-    pub log_is : settings.log ≡ x.store.log
+    pub counts : HasCounted x.store set signer.settings.id signer.public
+    pub log_is : signer.settings.log ≡ x.store.log
 
   -- It prints that the entry stands, with status 0, and the list has the certificate's entry and
   -- key at the index; or, with status 10, two different strings with one hash.

@@ -11,11 +11,12 @@ use Rattle.cosigner_core.specs.declared.step.Step.{Step}
 use Rattle.issuance_log.specs.Folds.{LogState, log_of}
 use Rattle.issuance_log.specs.Records.{item_in}
 use Rattle.issuance_log.specs.Settings.{Settings}
+use Rattle.mirror_core.specs.Folds.{MirrorState, mirror_of}
 use Rattle.party_history.specs.KeyUses.{UseOneKey}
-use Rattle.party_history.specs.Laws.{HasItemAt, KeepsItems}
+use Rattle.party_history.specs.Laws.{HasItemAt, KeepsItems, KeepsMirroredItems}
 use Rattle.party_history.specs.Rules.{IsReadAs, StartsWith, may_follow}
 use Rattle.party_history.specs.declared.start.PartyStart.{PartyStart}
-use Rattle.party_history.specs.declared.start.PartyStart.TheVariants.{Log, Cosigner}
+use Rattle.party_history.specs.declared.start.PartyStart.TheVariants.{Log, Cosigner, Mirror}
 use Rattle.file_events.specs.Events.{HasReleased, MayRecover, EventHolds}
 use Rattle.file_events.specs.Worlds.{Program, EachRun, IsFileExecution, own_events, states_of}
 use Rattle.file_events.specs.Worlds.{IsOneFile, heard_of}
@@ -28,12 +29,6 @@ pub record AreOfParty (h : HashFunction) (start : PartyStart) (first : Text)
   pub others : List Text
   pub is : list ≡ first ∷ others
   pub valid : may_follow h start others ≡ true
-
--- A file is read as the log or the cosigner that has these records, which are the party's.
-pub record IsReadAsParty (h : HashFunction) (start : PartyStart) (first c : Text) : Type 0 where
-  pub records : List Text
-  pub of_party : AreOfParty h start first records
-  pub read : IsReadAs h start c records
 
 module _ (h : HashFunction) (p : Program) where
   -- This holds of each execution that begins with a run that made or opened the journal.
@@ -60,11 +55,12 @@ module _ (h : HashFunction) (p : Program) where
       IsReached h p name start first old events new)
 
   -- No journal is refused: what a crash may leave of the file, and what the file system has of it,
-  -- as the model knows it, is read as the party.
+  -- as the model knows it, is read as the log, the cosigner or the mirror that has such records of
+  -- the party.
   abbrev pub JournalsAreRead : Type 0
   JournalsAreRead = OfExecutions (λ name start first old events new.
       (c : Text) → states_of p name new c ⊎ (p.rooms.file new name ≡ Some c)
-      → IsReadAsParty h start first c)
+      → (records : List Text) × (AreOfParty h start first records × IsReadAs h start c records))
 
   -- The i-th Sign record of a cosigner, counted from 0, has the number i, and so has the i-th Child
   -- record, so no number stands twice.
@@ -135,6 +131,15 @@ module _ (h : HashFunction) (p : Program) where
       → MayRecover (states_of p name new) found
       → (log : LogState) × ((log_of h found ≡ Ok log)
       × HasItemAt (length s.entries) entry key log))
+
+  -- A mirror keeps its log, and its items at their indices, in each mirror that may be recovered
+  -- after a run found or made its records.
+  abbrev pub MirroredItemsStand : Type 0
+  MirroredItemsStand = OfExecutions (λ name start first old events new. (log : Text)
+      (list found : List Text) (s : MirrorState) → start ≡ Mirror log
+      → WasHeld h p name old events list → mirror_of h list ≡ Ok s
+      → MayRecover (states_of p name new) found
+      → (mirror : MirrorState) × ((mirror_of h found ≡ Ok mirror) × KeepsMirroredItems s mirror))
 
   -- Each journal that a run made or opened is that of a party, as the laws of executions suppose.
   abbrev pub JournalsAreOfParties : Type 0

@@ -14,7 +14,7 @@ use Rattle.file_events.specs.Owners.{RunsMayBreak}
 use Rattle.file_events.specs.Worlds.{FileOwner, IsFileEvent, Program, died}
 use Rattle.mtc_words.specs.Names.{is_tiles_name}
 use Rattle.mtc_top.specs.Executions.{Run, owner, program}
-use Rattle.mtc_laws.specs.TileLaws.{tiled_log}
+use Rattle.mtc_laws.specs.TileLaws.{tiled_journal}
 
 module _ (h : HashFunction) (p : Program) where
   -- Each run leaves of a journal what a run leaves that broke off. The name of a journal isn't that
@@ -23,9 +23,9 @@ module _ (h : HashFunction) (p : Program) where
   JournalsMayBreak = (name : Text) → is_tiles_name name ≡ false → RunsMayBreak p (owner h p name)
 
   -- the same of a journal with the file of its tiles
-  abbrev pub LogsMayBreak : Type 0
-  LogsMayBreak = (name : Text) → is_tiles_name name ≡ false
-      → RunsMayBreak p (tiled_log h p name)
+  abbrev pub TiledJournalsMayBreak : Type 0
+  TiledJournalsMayBreak = (name : Text) → is_tiles_name name ≡ false
+      → RunsMayBreak p (tiled_journal h p name)
 
 module _ {O E : Type 0} (h : HashFunction) (fused_rooms : Rooms FuseRoom MemSource (Fuse MemDisk))
     (fuses : Disks (Fuse MemDisk)) (rooms : Rooms MemRoom MemSource MemDisk) (disks : Disks MemDisk)

@@ -2,6 +2,7 @@ pub mod RunLaws
 pub mod ExecutionLaws
 pub mod RoomLaws
 pub mod ExportLaws
+pub mod Cosigners
 pub mod AuditLaws
 pub mod QuarrelLaws
 pub mod PrintLaws
@@ -15,3 +16,5 @@ pub mod MonitorLaws
 pub mod RecordedTwice
 pub mod ListLaws
 pub mod PemLaws
+pub mod Promise
+pub mod MirrorLaws

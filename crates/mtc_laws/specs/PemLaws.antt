@@ -17,7 +17,8 @@ use Rattle.mtc_words.specs.Words.{command_of}
 use Rattle.mtc_command.specs.Made.{reads}
 use Rattle.mtc_authority.specs.CertOutcome.{certificate_in, signatures_in}
 use Rattle.mtc_authority.specs.ListOutcomes.{certs_text, light_certs_text}
-use Rattle.mtc_laws.specs.AcceptanceLaws.{AsksForCertificate, Backs, HasWritten}
+use Rattle.mtc_laws.specs.AcceptanceLaws.{AsksForCertificate, Backs}
+use Rattle.mtc_laws.specs.Cosigners.{HasWritten}
 use Rattle.mtc_laws.specs.AcceptanceLaws.{WritesCertificate}
 use Rattle.mtc_laws.specs.AuditLaws.{HoldsText}
 use Rattle.mtc_laws.specs.CertLaws.{HasVerified, PrintsAccepted}

@@ -1,6 +1,6 @@
--- What goes out of `issue`, `switch` and `cosign`, in addition to the request that they read and
+-- What goes out of `issue`, `switch`, `cosign` and `mirror-cosign`, in addition to the request and
 -- the record that they add, and what becomes of that record.
-use Rattle.std.specs.Prelude.{◌≡◌, true, ℕ, List, [], ◌∷◌, ◌++◌, length, Option, None}
+use Rattle.std.specs.Prelude.{◌≡◌, ◌⊎◌, true, ℕ, List, [], ◌∷◌, ◌++◌, length, Option, None}
 use Rattle.std.specs.Prelude.{Some, option_map, Ok}
 use Rattle.byte_formats.specs.Types.{HashFunction, Text}
 use Rattle.file_events.specs.Executions.{IsPrefix}
@@ -9,7 +9,7 @@ use Rattle.file_events.specs.Owners.{did_to}
 use Rattle.file_events.specs.Events.{MayRecover, EventHolds}
 use Rattle.journal_core.specs.Format.{Represents}
 use Rattle.mtc_words.specs.Commands.{CommandValue, advance, child, cosign, export, init_cosigner}
-use Rattle.mtc_words.specs.Commands.{issue, keygen, switch}
+use Rattle.mtc_words.specs.Commands.{issue, keygen, mirror_advance, mirror_cosign, switch}
 use Rattle.mtc_words.specs.Words.{command_of}
 use Rattle.authority_core.specs.Files.{request_of}
 use Rattle.authority_core.specs.Issues.{issued_entry}
@@ -24,17 +24,26 @@ use Rattle.cosigner_core.specs.declared.step.Step.TheVariants.{Sign}
 use Rattle.issuance_log.specs.Folds.{LogState, log_of, view_in}
 use Rattle.issuance_log.specs.Records.{item_in, switch_record}
 use Rattle.issuance_log.specs.Settings.{Settings}
+use Rattle.mirror_core.specs.Openings.{FoundMirror, mirror_read}
+use Rattle.mirror_cosigner.specs.Requests.{subtree_by_mirror}
 use Rattle.mtc_command.specs.Made.{appended, reads}
 use Rattle.mtc_cosigner.specs.CosignerOutcomes.{advanced_text, child_line, cosigned_text}
 use Rattle.mtc_cosigner.specs.KeygenOutcome.{lms_type, ots_type, public_line}
 use Rattle.mtc_authority.specs.IssueOutcome.{issued_text}
 use Rattle.mtc_authority.specs.SwitchOutcome.{switched_line}
 use Rattle.mtc_authority.specs.Works.{IsLog}
+use Rattle.mtc_mirror.specs.Works.{IsMirror}
 use Rattle.party_history.specs.Laws.{HasItemAt}
 use Rattle.party_history.specs.declared.start.PartyStart.TheVariants.{Log}
 use Rattle.mtc_laws.specs.AuditLaws.{HoldsText}
 use Rattle.mtc_laws.specs.ExecutionLaws.{OfExecutions}
 use Rattle.mtc_top.specs.Executions.{owner, HasPrinted, HasStreamed, Run}
+
+-- The command is `cosign` or `mirror-cosign`, with the cosigner in the journal of this name.
+abbrev pub Signs : Text → CommandValue → Type 0
+Signs name command = ((file : Text) × (command ≡ cosign name file))
+    ⊎ ((mirror : Text) × ((start : ℕ) × ((end : ℕ)
+    × (command ≡ mirror_cosign name mirror start end))))
 
 module _ (h : HashFunction) (p : Program) where
   -- The run read a request from this file, and added a record to a log with these records: the
@@ -61,17 +70,22 @@ module _ (h : HashFunction) (p : Program) where
     pub did : did_to p name old run ≡ appended list (switch_record (length state.entries))
     pub printed : HasPrinted p run (switched_line (length state.entries))
 
-  -- The run read a request from this file, and added a Sign record to a cosigner with these
+  -- A run of `cosign` read a request from a file, and one of `mirror-cosign` has the one that is
+  -- made of the items of the mirror in a journal. It added a Sign record to a cosigner with these
   -- records, with the number of the next one-time key. What went out is the signature by that key,
   -- over the interval and the hash of the request.
-  pub record HasCosigned (name file : Text) (old : p.R) (run : Run p.R p.O p.E) : Type 0 where
-    pub text : Text
-    pub has_text : HoldsText (p.rooms.file old) file 16777216 text
-    pub request : SubtreeParts
-    pub asked : subtree_in text ≡ Ok request
+  pub record HasCosigned (name : Text) (old : p.R) (run : Run p.R p.O p.E) : Type 0 where
     pub list : List Text
     pub state : CosignerState
     pub cosigner_is : cosigner_of h list ≡ Ok state
+    pub request : SubtreeParts
+    pub asked : ((file : Text) × ((text : Text)
+        × ((command_of run.words ≡ Ok (cosign name file))
+        × HoldsText (p.rooms.file old) file 16777216 text × (subtree_in text ≡ Ok request))))
+        ⊎ ((mirror : Text) × ((start : ℕ) × ((end : ℕ) × ((held : Text) × ((found : FoundMirror)
+        × ((command_of run.words ≡ Ok (mirror_cosign name mirror start end))
+        × (p.rooms.file old mirror ≡ Some held) × (mirror_read h held ≡ Ok found)
+        × (request ≡ subtree_by_mirror h found.state state.held start end)))))))
     pub body : Text
     pub did : did_to p name old run ≡ appended list body
     pub signs : step_in body
@@ -86,13 +100,16 @@ module _ (h : HashFunction) (p : Program) where
       (public_line (lms_type top) (option_map lms_type low) (ots_type width) secret))
 
   -- What goes out of a command that opens a cosigner's journal, or is given a secret file as such.
-  -- `cosign` prints a signature, and has added its record. `advance` prints the size in the request
-  -- that it read; `child` the number of the next lower tree, and has added its record; `export` the
-  -- ids, the public key and the records after the first of those that it read; and those that are
-  -- given a secret file print its public key. Each journal that another command opens or makes is a
-  -- log's, and of what goes out of it nothing is said here.
+  -- `cosign` and `mirror-cosign` print a signature, and have added its record. `advance` prints the
+  -- size in the request that it read, and `mirror-advance` its own size; `child` the number of the
+  -- next lower tree, and has added its record; `export` the ids, the public key and the records
+  -- after the first of those that it read; and those that are given a secret file print its public
+  -- key. Each journal that another command opens or makes is a log's or a mirror's, and of what
+  -- goes out of it nothing is said here.
   abbrev pub Says : CommandValue → p.R → Run p.R p.O p.E → Type 0
-  Says (cosign name file) old run = HasCosigned name file old run
+  Says (cosign name file) old run = HasCosigned name old run
+  Says (mirror_cosign name mirror start end) old run = HasCosigned name old run
+  Says (mirror_advance name mirror size) old run = HasPrinted p run (advanced_text size)
   Says (advance name file) old run = (text : Text) × ((request : AdvanceParts)
       × (HoldsText (p.rooms.file old) file 16777216 text × (advance_in text ≡ Ok request)
       × HasPrinted p run (advanced_text request.size)))
@@ -108,7 +125,7 @@ module _ (h : HashFunction) (p : Program) where
       PrintsKey top low width file old run
   Says (keygen height width file) old run = PrintsKey height None width file old run
   Says other old run = (name : Text) (list : List Text)
-      → EventHolds list ((owner h p name).run_event old run) → IsLog h list
+      → EventHolds list ((owner h p name).run_event old run) → IsLog h list ⊎ IsMirror h list
 
   -- This holds of each run by this command that did its work, or of which a byte may have gone out.
   abbrev pub OfHeard : CommandValue → (p.R → Run p.R p.O p.E → Type 0) → p.R
@@ -130,14 +147,14 @@ module _ (h : HashFunction) (p : Program) where
   abbrev pub SwitchesArePrinted : Type 0
   SwitchesArePrinted = (name : Text) → OfEachRun (OfHeard (switch name) (HasSwitched name))
 
-  -- Each such run of `cosign` has cosigned.
+  -- Each such run of a command that signs has cosigned.
   abbrev pub SignaturesArePrinted : Type 0
-  SignaturesArePrinted = (name file : Text)
-      → OfEachRun (OfHeard (cosign name file) (HasCosigned name file))
+  SignaturesArePrinted = (name : Text) (command : CommandValue) → Signs name command
+      → OfEachRun (OfHeard command (HasCosigned name))
 
   -- Each run that did its work, or of which a byte may have gone out, has a command, and so it is
   -- of it. Of the commands that open a cosigner's journal, or are given a secret file as such, only
-  -- `cosign` prints a signature by it.
+  -- `cosign` and `mirror-cosign` print a signature by it.
   abbrev pub OnlyCosignSigns : Type 0
   OnlyCosignSigns = (old : p.R) (run : Run p.R p.O p.E) → p.rooms.is_modelled old
       → p.HasRun old run → heard_of p run ≡ true
@@ -175,12 +192,12 @@ module _ (h : HashFunction) (p : Program) where
       → MayRecover (states_of p name new) found
       → EachRun p (OfHeard (switch name) (λ old run. IsSwitchedIn name old run found)) old events)
 
-  -- Each crash state of the journal represents records. For each run of the execution these begin
-  -- with those that were there and the record of the signature.
+  -- Each crash state of the journal represents records. Each run of the execution by a command that
+  -- signs, if it did its work or if a byte of it may have gone out, has cosigned, and the records
+  -- begin with those that were there and the one of the signature.
   abbrev pub SignaturesStand : Type 0
   SignaturesStand = OfExecutions h p (λ name start first old events new.
-      (file c : Text) → states_of p name new c
-      → (found : List Text) × (Represents c found
-      × EachRun p (OfHeard (cosign name file) (λ old run.
-      (signed : HasCosigned name file old run)
-      × IsPrefix (signed.list ++ signed.body ∷ []) found)) old events))
+      (c : Text) → states_of p name new c → (found : List Text) × (Represents c found
+      × ((command : CommandValue) → Signs name command
+      → EachRun p (OfHeard command (λ old run. (signed : HasCosigned name old run)
+      × IsPrefix (signed.list ++ signed.body ∷ []) found)) old events)))

@@ -1,62 +1,29 @@
 -- What `quarrel` prints of the export of a cosigner whose journal had records of two signatures in
 -- conflict.
-use Rattle.std.specs.Prelude.{◌≡◌, ◌≢◌, ℕ, List, ◌∷◌, ◌++◌, Some, Ok}
+use Rattle.std.specs.Prelude.{◌≡◌, ◌≢◌, ℕ, Ok}
 use Rattle.byte_formats.specs.Types.{Hash, HashFunction, Text}
-use Rattle.file_events.specs.Worlds.{Program, IsFileExecution}
-use Rattle.mtc_words.specs.Commands.{export, quarrel}
+use Rattle.file_events.specs.Worlds.{Program}
+use Rattle.mtc_words.specs.Commands.{quarrel}
 use Rattle.mtc_words.specs.Words.{command_of}
-use Rattle.cosigner_core.specs.Records.{step_in}
-use Rattle.cosigner_core.specs.declared.settings.CosignerSettings.{CosignerSettings}
-use Rattle.cosigner_core.specs.declared.step.Step.TheVariants.{Sign}
-use Rattle.party_history.specs.declared.start.PartyStart.TheVariants.{Cosigner}
 use Rattle.mtc_relying.specs.QuarrelOutcome.{quarrel_text}
 use Rattle.mtc_laws.specs.AuditLaws.{HoldsText}
 use Rattle.mtc_top.specs.Concluded.{Prints}
-use Rattle.mtc_top.specs.Executions.{owner, WasHeld, IsBegun, Run, FileEvent}
+use Rattle.mtc_top.specs.Executions.{Run}
+use Rattle.mtc_laws.specs.Cosigners.{CosignerExecution, HasSignRecord, WasExported}
 
 module _ (h : HashFunction) (p : Program) where
-  -- A run of this execution of a cosigner's journal found or added the record of a signature of
-  -- this interval and hash.
-  pub record HasSignRecord (name : Text) (begins : p.R) (events : List (FileEvent p.R p.O p.E))
-      (first : Text) (start end : ℕ) (hash : Hash) : Type 0 where
-    pub prefix : List Text
-    pub more : List Text
-    pub body : Text
-    pub held : WasHeld h p name begins events (first ∷ (prefix ++ body ∷ more))
-    pub index : ℕ
-    pub proof : List Text
-    pub signs : step_in body ≡ Some (Sign index start end hash proof)
-
   -- In an execution of a cosigner's journal there were such records of one interval with different
   -- hashes, and a run of `export` after it printed this.
   pub record HasSignedTwice (kept_text : Text) : Type 0 where
-    -- a run made or opened the journal
-    pub name : Text
-    pub settings : CosignerSettings
-    pub public : Text
-    pub first : Text
-    pub begins : p.R
-    pub events : List (FileEvent p.R p.O p.E)
-    pub begun : IsBegun h p name (Cosigner settings public) first begins events
-    -- the execution
-    pub old : p.R
-    pub execution : IsFileExecution p (owner h p name) begins events old
-    -- the two signatures
+    pub signer : CosignerExecution h p
     pub start : ℕ
     pub end : ℕ
     pub one : Hash
     pub other : Hash
-    pub one_signed : HasSignRecord name begins events first start end one
-    pub other_signed : HasSignRecord name begins events first start end other
+    pub one_signed : HasSignRecord h p signer start end one
+    pub other_signed : HasSignRecord h p signer start end other
     pub differ : one ≢ other
-    -- the run of `export`, over an output of which the model knows what it took
-    pub run : Run p.R p.O p.E
-    pub has_run : p.HasRun old run
-    pub spoken : command_of run.words ≡ Ok (export name)
-    pub done : run.status ≡ 0
-    pub before : Text
-    pub contents : p.outs.taken run.out ≡ Some before
-    pub printed : p.outs.taken run.out_after ≡ Some (before ++ kept_text)
+    pub exported : WasExported h p signer kept_text
 
   -- It prints two numbers of keys, and two different strings with one hash, with status 10.
   pub record Convicts (run : Run p.R p.O p.E) : Type 0 where

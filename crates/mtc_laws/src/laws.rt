@@ -1,7 +1,6 @@
 //! Laws of runs, and of executions of runs and stops: the clauses are the laws, and the functions
 //! do nothing, but that one calls another law.
 
-ghost use Rattle.mtc_laws.specs.AcceptanceLaws.{IssuedCertificatesAreAccepted};
 ghost use Rattle.mtc_laws.specs.AuditLaws.{AuditsDecide, AuditsStand};
 ghost use Rattle.mtc_laws.specs.QuarrelLaws.{TwoSignaturesCollide};
 ghost use Rattle.mtc_laws.specs.ExecutionLaws.{AddedEntriesStand, ExecutionsAreOfFiles};
@@ -10,18 +9,20 @@ ghost use Rattle.mtc_laws.specs.ExecutionLaws.{EntriesStand};
 ghost use Rattle.mtc_laws.specs.ExecutionLaws.{ReleasedStand, ReleasedWasHeld};
 ghost use Rattle.mtc_laws.specs.ExecutionLaws.{JournalsAreOfParties, JournalsAreRead};
 ghost use Rattle.mtc_laws.specs.ExecutionLaws.{KeysSignOnce, KeysSignOneMessage};
-ghost use Rattle.mtc_laws.specs.ExecutionLaws.{RecoveredListsGrow};
+ghost use Rattle.mtc_laws.specs.ExecutionLaws.{MirroredItemsStand, RecoveredListsGrow};
 ghost use Rattle.mtc_top.specs.Executions.{program};
 ghost use Rattle.mtc_laws.specs.ExportLaws.{ExportsHoldTheSteps, ExportsOnlyGrow};
 ghost use Rattle.mtc_laws.specs.PrintLaws.{IndicesArePrinted, IssuedEntriesStand, OnlyCosignSigns};
 ghost use Rattle.mtc_laws.specs.PrintLaws.{SignaturesArePrinted, SignaturesStand};
 ghost use Rattle.mtc_laws.specs.PrintLaws.{SwitchesArePrinted, SwitchesStand};
+ghost use Rattle.mtc_laws.specs.Promise.{KeepsItsPromise};
 ghost use Rattle.mtc_laws.specs.RoomLaws.{JournalsAreOneHistory};
 ghost use Rattle.mtc_laws.specs.RunLaws.{PrefixesAreRuns, RunsShow, RunsAreSteps};
 ghost use Rattle.mtc_laws.specs.StatusLaws.{MisreadFilesAreInputs};
 ghost use Rattle.mtc_laws.specs.TileLaws.{NoTileIsBad, TilesSurviveStops};
 
 use issuance_log::laws::law_records_keep_to_the_rules;
+use mirror_core::laws::law_records_determine_the_items;
 use mtc_io::Sink;
 use mtc_room::Room;
 use tree_core::TreeHash;
@@ -96,34 +97,43 @@ pub fn law_entries_keep_their_indices<H: TreeHash, R: Room, O: Sink, E: Sink>()
     ensures added { AddedEntriesStand H.hash (program H.hash R.Room R.Dsk.Disk O.Sink E.Sink) }
 {}
 
+/// A mirror keeps its log, and each item that a run found or added, at its index, in each mirror
+/// that may be recovered afterwards.
+pub fn law_mirrors_keep_their_indices<H: TreeHash, R: Room, O: Sink, E: Sink>()
+    ensures { MirroredItemsStand H.hash (program H.hash R.Room R.Dsk.Disk O.Sink E.Sink) }
+{}
+
 /// Each journal that a run made or opened, and ended with another status than 5 and 8 or after a
-/// byte went out, is that of a log or a cosigner, so the laws of executions are of each of them,
-/// from that run on.
+/// byte went out, is that of a log, a cosigner or a mirror, so the laws of executions are of each
+/// of them, from that run on.
 pub fn law_journals_are_of_parties<H: TreeHash, R: Room, O: Sink, E: Sink>()
     ensures { JournalsAreOfParties H.hash (program H.hash R.Room R.Dsk.Disk O.Sink E.Sink) }
 {}
 
 /// No journal that an execution has reached is refused: what a crash may leave of it, and what the
-/// file system has of it, as the model knows it, is read as the log or the cosigner with records
-/// that follow the rules.
+/// file system has of it, as the model knows it, is read as the log, the cosigner or the mirror
+/// with records that follow the rules.
 pub fn law_no_journal_is_refused<H: TreeHash, R: Room, O: Sink, E: Sink>()
     ensures { JournalsAreRead H.hash (program H.hash R.Room R.Dsk.Disk O.Sink E.Sink) }
 {}
 
-/// A run that opens the journal that an execution has reached, as that of its log or its cosigner,
-/// ends with status 2 only for an input of its command, or for the file of its log's tiles, if that
-/// doesn't have a tile of the last size. So it never does if the command has no input and the file
-/// has the tiles.
+/// A run of a command on one journal that opens the one that an execution has reached, as that of
+/// its log, its cosigner or its mirror, ends with status 2 only for an input of its command, or for
+/// the file of the tiles, if that doesn't have a tile of the last size. So it never does if the
+/// command has no input and the file has the tiles. Of `mirror-advance` and `mirror-cosign`, which
+/// work on two journals, the module `mirrors` says it.
 pub fn law_misread_files_are_inputs<H: TreeHash, R: Room, O: Sink, E: Sink>()
     ensures { MisreadFilesAreInputs H.hash (program H.hash R.Room R.Dsk.Disk O.Sink E.Sink)
         E.Sink }
 {}
 
-/// Tiles survive a stop. This holds in each execution of a log's journal and of the file of its
-/// tiles that begins with a run that made the journal, or that found its first record alone:
-/// whatever runs there are, wherever they fail or are killed, and wherever the machine stops.
-/// Whatever a crash leaves of both files, the one has all tiles of the last size in the other. So
-/// no run that opens the log reports a bad tile: with status 2 it is about a file that it reads.
+/// Tiles survive a stop. This holds in each execution of a log's or a mirror's journal and of the
+/// file of its tiles that begins with a run that made the journal, or that found its first record
+/// alone: whatever runs there are, wherever they fail or are killed, and wherever the machine
+/// stops. Whatever a crash leaves of both files, the one has all tiles of the last size in the
+/// other. So no run of a command on this journal alone reports a bad tile: with status 2 it is
+/// about a file that it reads. Of `mirror-advance` and `mirror-cosign`, which work on two journals,
+/// the second clause says nothing.
 pub fn law_tiles_survive_stops<H: TreeHash, R: Room, O: Sink, E: Sink>()
     ensures survive { TilesSurviveStops H.hash (program H.hash R.Room R.Dsk.Disk O.Sink E.Sink) }
     ensures none { NoTileIsBad H.hash (program H.hash R.Room R.Dsk.Disk O.Sink E.Sink) E.Sink }
@@ -170,26 +180,29 @@ pub fn law_two_signatures_collide<H: TreeHash, R: Room, O: Sink, E: Sink>()
     ensures { TwoSignaturesCollide H.hash (program H.hash R.Room R.Dsk.Disk O.Sink E.Sink) }
 {}
 
-/// From the first byte on that may have gone out of `issue`, `switch` or `cosign`, and with status
-/// 0, its record was added, and its request, if it has one, is what the file says that its
-/// arguments name. What goes out of `issue` is the index of the entry, which counts those before
-/// it. What goes out of `switch` is the number of the entries before it. What goes out of `cosign`
-/// is the signature by the one-time key whose number the record has, over the interval and the hash
-/// of the request. It is the whole with status 0; with 6, the one other status, it is a prefix.
-/// Arguments that are no command do no work, and nothing goes out. Of the commands that open a
-/// cosigner's journal, or are given a secret file as such, only `cosign` prints a signature by it.
-/// `advance` prints the size in its request, and `child` the number of the lower tree whose record
-/// it adds. `export` prints the ids, the public key and the records after the first of those that
-/// it read, and `init-cosigner`, `init-cosigner2` and `keygen` the public key of the secret file.
-/// Each journal that another command opens or makes is a log's. Nothing is said of what goes out of
-/// those.
+/// From the first byte on that may have gone out of `issue`, `switch`, `cosign` or `mirror-cosign`,
+/// and with status 0, its record was added, and its request, if it has one, is what the file says
+/// that its arguments name, or the one that is made of the mirror's items. What goes out of `issue`
+/// is the index of the entry, which counts those before it. What goes out of `switch` is the number
+/// of the entries before it. What goes out of `cosign` and `mirror-cosign` is the signature by the
+/// one-time key whose number the record has, over the interval and the hash of the request. It is
+/// the whole with status 0; with 6, the one other status, it is a prefix. Arguments that are no
+/// command do no work, and nothing goes out. Of the commands that open a cosigner's journal, or are
+/// given a secret file as such, only `cosign` and `mirror-cosign` print a signature by it.
+/// `advance` prints the size in its request, `mirror-advance` its own size, and `child` the number
+/// of the lower tree whose record it adds. `export` prints the ids, the public key and the records
+/// after the first of those that it read, and `init-cosigner`, `init-cosigner2` and `keygen` the
+/// public key of the secret file. Each journal that another command opens or makes is a log's or a
+/// mirror's. Nothing is said of what goes out of those.
 pub fn law_printed_texts_are_of_their_records<H: TreeHash, R: Room, O: Sink, E: Sink>()
     ensures indices { IndicesArePrinted H.hash (program H.hash R.Room R.Dsk.Disk O.Sink E.Sink) }
     ensures switches { SwitchesArePrinted H.hash (program H.hash R.Room R.Dsk.Disk O.Sink E.Sink) }
     ensures signatures { SignaturesArePrinted H.hash
         (program H.hash R.Room R.Dsk.Disk O.Sink E.Sink) }
     ensures secrets { OnlyCosignSigns H.hash (program H.hash R.Room R.Dsk.Disk O.Sink E.Sink) }
-{}
+{
+    law_records_determine_the_items();
+}
 
 /// This holds in each execution of a journal, and what is said of the record stays so. Each entry
 /// of which a byte of the index may have gone out is in each log that may be recovered at the end
@@ -201,36 +214,29 @@ pub fn law_printed_texts_stand<H: TreeHash, R: Room, O: Sink, E: Sink>()
     ensures entries { IssuedEntriesStand H.hash (program H.hash R.Room R.Dsk.Disk O.Sink E.Sink) }
     ensures switches { SwitchesStand H.hash (program H.hash R.Room R.Dsk.Disk O.Sink E.Sink) }
     ensures signatures { SignaturesStand H.hash (program H.hash R.Room R.Dsk.Disk O.Sink E.Sink) }
-{}
+{
+    law_records_determine_the_items();
+}
 
 /// The promise as a whole. In no execution does a one-time key of a journal sign two messages. Each
-/// byte that goes out of `cosign` is of the signature by the key whose number its record has, over
-/// what the request file asks for. Of the commands that open a cosigner's journal, or are given a
-/// secret file as such, no other prints a signature by it. Each crash state of a journal represents
+/// byte that goes out of `cosign` or `mirror-cosign` is of the signature by the key whose number
+/// its record has, over what the request file asks for, or over the mirror's items. Of the commands
+/// that open a cosigner's journal, or are given a secret file as such, no other prints a signature
+/// by it. Each crash state of a journal represents
 /// records, and what a run before found in it, or made of it, is a prefix of these: so the record
 /// of each signature of which a byte may have gone out is there. No journal is refused: each crash
-/// state is read as its log or its cosigner. A later export has the step of each of its records. If
-/// a store accepts a certificate by a signature whose record a run of an execution held, or by a
-/// landmark, a run of `audit` over the wanted list, and over an export that was printed after it,
-/// prints that the entry stands, or two different strings with one hash. Or it ends with status 5,
-/// 6 or 8. If runs of an execution held the records of two signatures of one interval with
-/// different hashes, a run of `quarrel` over a later export prints two different strings with one
-/// hash, or ends so. What `cert` or `light-cert` prints for an index that `issue` printed before,
-/// each run of `verify` accepts, by each store that backs the certificate, at each time of the
-/// request's period, or it ends so.
+/// state is read as its log, its cosigner or its mirror. A later export has the step of each of its
+/// records. If a store accepts a certificate by a signature whose record a run of an execution
+/// held, or by a landmark, a run of `audit` over the wanted list, and over an export that was
+/// printed after it, prints that the entry stands, or two different strings with one hash. Or it
+/// ends with status 5, 6 or 8. If runs of an execution held the records of two signatures of one
+/// interval with different hashes, a run of `quarrel` over a later export prints two different
+/// strings with one hash, or ends so. What `cert` or `light-cert` prints for an index that `issue`
+/// printed before, each run of `verify` accepts, by each store that backs the certificate, at each
+/// time of the request's period, or it ends so.
 pub fn law_the_whole_promise<H: TreeHash, R: Room, O: Sink, E: Sink>()
-    ensures once { KeysSignOnce H.hash (program H.hash R.Room R.Dsk.Disk O.Sink E.Sink) }
-    ensures messages { KeysSignOneMessage H.hash (program H.hash R.Room R.Dsk.Disk O.Sink E.Sink) }
-    ensures stand { RecoveredListsGrow H.hash (program H.hash R.Room R.Dsk.Disk O.Sink E.Sink) }
-    ensures read { JournalsAreRead H.hash (program H.hash R.Room R.Dsk.Disk O.Sink E.Sink) }
-    ensures signatures { OnlyCosignSigns H.hash (program H.hash R.Room R.Dsk.Disk O.Sink E.Sink) }
-    ensures remain { SignaturesStand H.hash (program H.hash R.Room R.Dsk.Disk O.Sink E.Sink) }
-    ensures exports { ExportsHoldTheSteps H.hash (program H.hash R.Room R.Dsk.Disk O.Sink E.Sink) }
-    ensures audits { AuditsDecide H.hash (program H.hash R.Room R.Dsk.Disk O.Sink E.Sink) }
-    ensures conflicts { TwoSignaturesCollide H.hash
-        (program H.hash R.Room R.Dsk.Disk O.Sink E.Sink) }
-    ensures accepted { IssuedCertificatesAreAccepted H.hash
-        (program H.hash R.Room R.Dsk.Disk O.Sink E.Sink) }
+    ensures { KeepsItsPromise H.hash (program H.hash R.Room R.Dsk.Disk O.Sink E.Sink) }
 {
     law_records_keep_to_the_rules();
+    law_records_determine_the_items();
 }

@@ -8,6 +8,7 @@ ghost use Rattle.mtc_laws.specs.PemLaws.{ListedCertificatesAreAccepted, ListedEn
 
 use disk_core::Disk;
 use issuance_log::laws::law_records_keep_to_the_rules;
+use mirror_core::laws::law_records_determine_the_items;
 use mtc_io::Sink;
 use mtc_room::Room;
 use tree_core::TreeHash;
@@ -47,4 +48,5 @@ pub fn law_listed_certificates_are_accepted<H: TreeHash, R: Room, O: Sink, E: Si
         (program H.hash R.Room R.Dsk.Disk O.Sink E.Sink) }
 {
     law_records_keep_to_the_rules();
+    law_records_determine_the_items();
 }

@@ -7,3 +7,4 @@ returns g c = issued_certificates_accepted g.H.TreeHash.hash g.R.Room g.R.Dsk.Di
     (g.met.R.Room.modelled_file, g.met.R.Room.one_device)
     g.met.R.Dsk.Disk.contents_bytes g.met.H.TreeHash.sized
     c.law_records_keep_to_the_rules.ensures.only_first
+    (c.law_records_determine_the_items.ensures.sound g.H.TreeHash.hash)

@@ -16,9 +16,12 @@ pub returns-clause-signatures : goal.returns-clause-signatures
 returns-clause-signatures g c = signatures_printed g.H.TreeHash.hash g.R.Room g.R.Dsk.Disk
     g.O.Sink g.E.Sink
     (g.met.R.Room.modelled_file, g.met.R.Room.one_device) g.met.R.Dsk.Disk.contents_bytes
+    g.met.H.TreeHash.sized
+    (c.law_records_determine_the_items.ensures.sound g.H.TreeHash.hash)
 
 pub returns-clause-secrets : goal.returns-clause-secrets
 returns-clause-secrets g c = only_cosign g.H.TreeHash.hash g.R.Room g.R.Dsk.Disk g.O.Sink g.E.Sink
     g.met.R.Dsk.Disk.reads_crash_state g.met.R.Dsk.Disk.only_now
     (g.met.R.Room.modelled_file, g.met.R.Room.one_device)
-    g.met.R.Dsk.Disk.contents_bytes
+    g.met.R.Dsk.Disk.contents_bytes g.met.H.TreeHash.sized
+    (c.law_records_determine_the_items.ensures.sound g.H.TreeHash.hash)

@@ -1,4 +1,5 @@
 use Rattle.mtc_laws.proofs.Acceptances.{issued_certificates_accepted}
+use Rattle.mtc_laws.proofs.Aliases.{ModelsFiles}
 use Rattle.mtc_laws.proofs.AuditsDecide.{audits_decide}
 use Rattle.mtc_laws.proofs.Convicted.{two_signatures_collide}
 use Rattle.mtc_laws.proofs.Exports.{exports_hold}
@@ -7,62 +8,35 @@ use Rattle.mtc_laws.proofs.Recovered.{keys_once, lists_grow, one_message, read_a
 use Rattle.mtc_laws.proofs.Secrets.{only_cosign}
 use Rattle.mtc_laws.proofs.laws.law_the_whole_promise.Goals as goal
 
-pub returns-clause-once : goal.returns-clause-once
-returns-clause-once g c = keys_once g.H.TreeHash.hash g.R.Room g.R.Dsk.Disk g.O.Sink g.E.Sink
-    g.met.R.Dsk.Disk.reads_crash_state g.met.R.Dsk.Disk.only_now
-    (g.met.R.Room.modelled_file, g.met.R.Room.one_device)
-    g.met.R.Dsk.Disk.contents_bytes
-
-pub returns-clause-messages : goal.returns-clause-messages
-returns-clause-messages g c = one_message g.H.TreeHash.hash g.R.Room g.R.Dsk.Disk g.O.Sink g.E.Sink
-    g.met.R.Dsk.Disk.reads_crash_state g.met.R.Dsk.Disk.only_now
-    (g.met.R.Room.modelled_file, g.met.R.Room.one_device)
-    g.met.R.Dsk.Disk.contents_bytes
-
-pub returns-clause-stand : goal.returns-clause-stand
-returns-clause-stand g c = lists_grow g.H.TreeHash.hash g.R.Room g.R.Dsk.Disk g.O.Sink g.E.Sink
-    g.met.R.Dsk.Disk.reads_crash_state g.met.R.Dsk.Disk.only_now
-    (g.met.R.Room.modelled_file, g.met.R.Room.one_device)
-    g.met.R.Dsk.Disk.contents_bytes
-
-pub returns-clause-read : goal.returns-clause-read
-returns-clause-read g c = read_again g.H.TreeHash.hash g.R.Room g.R.Dsk.Disk g.O.Sink g.E.Sink
-    g.met.R.Dsk.Disk.reads_crash_state g.met.R.Dsk.Disk.only_now
-    (g.met.R.Room.modelled_file, g.met.R.Room.one_device)
-    g.met.R.Dsk.Disk.contents_bytes
-
-pub returns-clause-signatures : goal.returns-clause-signatures
-returns-clause-signatures g c = only_cosign g.H.TreeHash.hash g.R.Room g.R.Dsk.Disk g.O.Sink
-    g.E.Sink g.met.R.Dsk.Disk.reads_crash_state g.met.R.Dsk.Disk.only_now
-    (g.met.R.Room.modelled_file, g.met.R.Room.one_device)
-    g.met.R.Dsk.Disk.contents_bytes
-
-pub returns-clause-audits : goal.returns-clause-audits
-returns-clause-audits g c = audits_decide g.H.TreeHash.hash g.R.Room g.R.Dsk.Disk g.O.Sink g.E.Sink
-    g.met.R.Dsk.Disk.reads_crash_state g.met.R.Dsk.Disk.only_now
-    (g.met.R.Room.modelled_file, g.met.R.Room.one_device)
-    g.met.R.Dsk.Disk.contents_bytes
-
-pub returns-clause-remain : goal.returns-clause-remain
-returns-clause-remain g c = signatures_stand g.H.TreeHash.hash g.R.Room g.R.Dsk.Disk g.O.Sink
-    g.E.Sink g.met.R.Dsk.Disk.reads_crash_state g.met.R.Dsk.Disk.only_now
-    (g.met.R.Room.modelled_file, g.met.R.Room.one_device)
-    g.met.R.Dsk.Disk.contents_bytes
-
-pub returns-clause-exports : goal.returns-clause-exports
-returns-clause-exports g c = exports_hold g.H.TreeHash.hash g.R.Room g.R.Dsk.Disk g.O.Sink g.E.Sink
-    g.met.R.Dsk.Disk.reads_crash_state g.met.R.Dsk.Disk.only_now
-    (g.met.R.Room.modelled_file, g.met.R.Room.one_device)
-    g.met.R.Dsk.Disk.contents_bytes
-
-pub returns-clause-conflicts : goal.returns-clause-conflicts
-returns-clause-conflicts g c = two_signatures_collide g.H.TreeHash.hash g.R.Room g.R.Dsk.Disk
-    g.O.Sink g.E.Sink g.met.R.Dsk.Disk.reads_crash_state g.met.R.Dsk.Disk.only_now
-    (g.met.R.Room.modelled_file, g.met.R.Room.one_device) g.met.R.Dsk.Disk.contents_bytes
-
-pub returns-clause-accepted : goal.returns-clause-accepted
-returns-clause-accepted g c = issued_certificates_accepted g.H.TreeHash.hash g.R.Room g.R.Dsk.Disk
-    g.O.Sink g.E.Sink g.met.R.Dsk.Disk.reads_crash_state g.met.R.Dsk.Disk.only_now
-    (g.met.R.Room.modelled_file, g.met.R.Room.one_device) g.met.R.Dsk.Disk.contents_bytes
-    g.met.H.TreeHash.sized
-    c.law_records_keep_to_the_rules.ensures.only_first
+pub returns : goal.returns
+returns g c =
+    let h = g.H.TreeHash.hash in
+    let disk = g.met.R.Dsk.Disk in
+    let files : ModelsFiles g.R.Room g.R.Dsk.Disk
+    = (g.met.R.Room.modelled_file, g.met.R.Room.one_device) in
+    record {
+      lists_only_grow = lists_grow h g.R.Room g.R.Dsk.Disk g.O.Sink g.E.Sink disk.reads_crash_state
+          disk.only_now files disk.contents_bytes;
+      journals_are_read = read_again h g.R.Room g.R.Dsk.Disk g.O.Sink g.E.Sink
+          disk.reads_crash_state disk.only_now files disk.contents_bytes;
+      keys_sign_once = keys_once h g.R.Room g.R.Dsk.Disk g.O.Sink g.E.Sink disk.reads_crash_state
+          disk.only_now files disk.contents_bytes;
+      keys_sign_one_message = one_message h g.R.Room g.R.Dsk.Disk g.O.Sink g.E.Sink
+          disk.reads_crash_state disk.only_now files disk.contents_bytes;
+      only_cosign_signs = only_cosign h g.R.Room g.R.Dsk.Disk g.O.Sink g.E.Sink
+          disk.reads_crash_state disk.only_now files disk.contents_bytes g.met.H.TreeHash.sized
+          (c.law_records_determine_the_items.ensures.sound h);
+      signatures_stand = signatures_stand h g.R.Room g.R.Dsk.Disk g.O.Sink g.E.Sink
+          disk.reads_crash_state disk.only_now files disk.contents_bytes g.met.H.TreeHash.sized
+          (c.law_records_determine_the_items.ensures.sound h);
+      exports_hold_the_steps = exports_hold h g.R.Room g.R.Dsk.Disk g.O.Sink g.E.Sink
+          disk.reads_crash_state disk.only_now files disk.contents_bytes;
+      issued_is_accepted = issued_certificates_accepted h g.R.Room g.R.Dsk.Disk g.O.Sink g.E.Sink
+          disk.reads_crash_state disk.only_now files disk.contents_bytes g.met.H.TreeHash.sized
+          c.law_records_keep_to_the_rules.ensures.only_first
+          (c.law_records_determine_the_items.ensures.sound h);
+      audits_decide = audits_decide h g.R.Room g.R.Dsk.Disk g.O.Sink g.E.Sink
+          disk.reads_crash_state disk.only_now files disk.contents_bytes;
+      two_signatures_collide = two_signatures_collide h g.R.Room g.R.Dsk.Disk g.O.Sink g.E.Sink
+          disk.reads_crash_state disk.only_now files disk.contents_bytes;
+    }

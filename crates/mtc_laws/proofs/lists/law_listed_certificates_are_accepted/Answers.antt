@@ -8,6 +8,7 @@ returns-clause-entries g c = listed_entries_accepted g.H.TreeHash.hash g.R.Room 
     (g.met.R.Room.modelled_file, g.met.R.Room.one_device) g.met.R.Dsk.Disk.contents_bytes
     g.met.H.TreeHash.sized
     c.law_records_keep_to_the_rules.ensures.only_first
+    (c.law_records_determine_the_items.ensures.sound g.H.TreeHash.hash)
 
 pub returns-clause-certificates : goal.returns-clause-certificates
 returns-clause-certificates g c = listed_certificates_accepted g.H.TreeHash.hash g.R.Room
@@ -15,3 +16,4 @@ returns-clause-certificates g c = listed_certificates_accepted g.H.TreeHash.hash
     (g.met.R.Room.modelled_file, g.met.R.Room.one_device) g.met.R.Dsk.Disk.contents_bytes
     g.met.H.TreeHash.sized
     c.law_records_keep_to_the_rules.ensures.only_first
+    (c.law_records_determine_the_items.ensures.sound g.H.TreeHash.hash)
