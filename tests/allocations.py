@@ -4,8 +4,8 @@
 The command then ends with status 8, one line that says so, nothing on standard output and every
 file as it was; or with its outcome, as if nothing had been refused. The lists here are shorter
 than what `entries` writes at once, but for that of LONG, of which the first items are out if the
-memory for the last one is refused. Of a log without a file of tiles an empty one may be there
-then, and tiles that are written again may be whole. The allocations are those of the C library, of which a preloaded library refuses one. Needs a
+memory for the last one is refused. Of a log or a mirror without a file of tiles an empty one may
+be there then, and tiles that are written again may be whole. The allocations are those of the C library, of which a preloaded library refuses one. Needs a
 C compiler; where there is none it says that this is left out, and ends with status 0.
 Usage: tests/allocations.py [PROGRAM]
 """
@@ -43,6 +43,13 @@ COMMANDS = [
     "switch log", "switch switched", "issue switched request",
     "checkpoint bare", "tile log", "tile full", "cert tiled 2 0 256 empty", "issue tiled request", "tile none.tiles",
     "tile-anew full", "tile-anew tiled", "tile-anew lost",
+    "mirror-init new 32473.1", "mirror-init log 32473.1", "mirror-take mirror entries", "mirror-take mirror few",
+    "mirror-take mirror differing", "mirror-take mirror export", "mirror-take log entries", "mirror-tile filled",
+    "mirror-tile mirror", "mirror-entries fresh 0", "mirror-entries mirror 3", "mirror-entries mirror 4",
+    "mirror-advance early mirror 3", "mirror-advance early mirror 4", "mirror-advance early filled 256",
+    "mirror-advance cosigner mirror 3", "mirror-advance follower mirror 2", "mirror-advance mirror log 3",
+    "mirror-advance follower log 3", "mirror-cosign follower mirror 0 2", "mirror-cosign follower mirror 1 3",
+    "mirror-cosign follower mirror 0 4", "mirror-cosign mirrored mirror 0 2", "mirror-cosign mirror mirror 0 2",
     "help", "version", "help x",
 ]
 
@@ -92,7 +99,7 @@ def make_files(folder):
     """The files of all commands."""
     make_long_log(folder)
     make_log(folder)
-    for name, text in (("empty", b""), ("state", b"state 32473.1 0\n"), ("watch", b"b.example\n"), ("secret", bytes(range(48))), ("wrong", REQUEST.format("-a").encode()),
+    for name, text in (("empty", b""), ("differing", bytes.fromhex("0001050000")), ("state", b"state 32473.1 0\n"), ("watch", b"b.example\n"), ("secret", bytes(range(48))), ("wrong", REQUEST.format("-a").encode()),
                        ("requests", "".join(f"[[request]]\n{REQUEST.format(name)}" for name in "ab").encode())):
         (folder.path / name).write_bytes(text)
     for name in ("member", "cert", "journal"):
@@ -116,11 +123,25 @@ def make_files(folder):
     folder.run("advance", "cosigner", "advance")
     folder.run("cosign", "cosigner", "subtree", into="signatures")
     folder.run("export", "cosigner", into="export")
+    make_mirrors(folder)
     folder.run(*"cert log 2 0 4 signatures".split(), into="cert")
     tables = folder.run("trust-landmarks", "list", "2", "entries").decode()
     (folder.path / "trusting").write_text(f'[log]\nid = "{LOG}"\n{tables}')
     rule = f'[[cosigner]]\nid = "{COSIGNER}"\nkey = "{key}"\n[[rule]]\ncosigners = ["{COSIGNER}"]\ncount = 1\n'
     (folder.path / "store").write_text(f'[log]\nid = "{LOG}"\n{rule}')
+
+
+def make_mirrors(folder):
+    """Mirrors without entries, with three and with 256, and cosigners that hold what the second one has."""
+    (folder.path / "zeros").write_bytes(bytes(4 * 256))
+    for mirror, entries in (("fresh", None), ("mirror", "few"), ("filled", "zeros")):
+        folder.run("mirror-init", mirror, LOG)
+        if entries:
+            folder.run("mirror-take", mirror, entries)
+    folder.run(*f"init-cosigner follower {COSIGNER} {LOG} 5 4 secret".split())
+    folder.run(*f"init-cosigner2 mirrored {COSIGNER} {LOG} 5 5 4 secret".split())
+    for cosigner in ("follower", "mirrored"):
+        folder.run("mirror-advance", cosigner, "mirror", "3")
 
 
 def files_of(path):
@@ -160,7 +181,8 @@ class Refusals:
         wanted, number, wrong, step = self.ended(words, 0)[1], 0, [], STEPS.get(words, 1)
         # The command isn't known before its arguments are copied.
         lines = ["mtc: Memory\n", f"mtc: {words.split()[0]}: Memory\n"]
-        made = {"checkpoint bare": {**self.files, "bare.tiles": b""}, "tile-anew lost": wanted[3]}.get(words, self.files)
+        made = {"checkpoint bare": {**self.files, "bare.tiles": b""}, "mirror-entries fresh 0": {**self.files, "fresh.tiles": b""},
+                "tile-anew lost": wanted[3]}.get(words, self.files)
         outs = {b"", first_items(wanted[1], 2)} if words == LONG else {b""}
         allowed = [wanted, *((8, out, line, files) for out in outs for line in lines for files in (self.files, made))]
         seen = set()

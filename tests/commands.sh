@@ -1,5 +1,5 @@
 #!/bin/bash
-# Runs a list of commands on a log and two cosigners over real files, and compares the status, standard output (by the first half
+# Runs a list of commands on logs, cosigners and mirrors over real files, and compares the status, standard output (by the first half
 # of its SHA-256) and standard error of each, and the journals at the end, with those that another implementation gave once.
 # Usage: tests/commands.sh [PROGRAM]    another build of the program, which is left out where it isn't there
 set -u
@@ -49,6 +49,11 @@ bytes 0481fd59010000000000000006 76e67dadbcdf1e10e1b74ddc608abd2f98dfb16fbce7527
 bytes 0481fd59010000000000000008 5dc9da79a70659a9ad559cb701ded9a2ab9d823aad2f4960cfe370eff4604328 \
     0060 "$n4_6" ca854ea128ed050b41b35ffc1b87b8eb2bde461e9e3b5596ece6b9d5975a0ae0 "$n0_4" >to_8
 echo "state 32473.1 6 $n0_4" >one_peak
+
+# The entries of mirrors: all eight, the same with another fourth one, and 65,536 without a byte, which one record doesn't hold.
+cat six last_two >eight
+bytes 00000000000100000000011000000002202000000002303100000004404142430000 | cat - last_two >differing
+head -c 262144 /dev/zero >zeros
 
 wrong=0
 count=0
@@ -343,6 +348,83 @@ light-certs H 1 3|0|bbad0ed1df1ebaad|
 light-certs H 1 4|4|-|mtc: light-certs: NoSuchEntry 3
 light-certs H 01 2|1|-|mtc: light-certs: BadNumber 2
 issue-list w R|2|-|mtc: issue-list: w: BadRecord 0
+mirror-init mirror 32473.1|0|d91bbe62cba87844|
+mirror-init mirror 32473.1|7|-|mtc: mirror-init: mirror: Exists
+mirror-init mirror.tiles 32473.1|1|-|mtc: mirror-init: TilesName 1
+mirror-init k 01|1|-|mtc: mirror-init: BadId 2
+mirror-init k|1|-|mtc: mirror-init: WrongCount 1 2
+mirror-entries mirror 0|0|-|
+mirror-entries mirror 1|4|-|mtc: mirror-entries: Beyond 0
+mirror-take mirror six|0|77390b9b63235102|
+mirror-take mirror eight|0|480c3bf1052c9f88|
+mirror-take mirror eight|4|-|mtc: mirror-take: NothingNew
+mirror-take mirror six|4|-|mtc: mirror-take: NothingNew
+mirror-take mirror empty|4|-|mtc: mirror-take: NothingNew
+mirror-take mirror differing|4|-|mtc: mirror-take: Differs 3
+mirror-take mirror y|4|-|mtc: mirror-take: Differs 0
+mirror-take mirror r|2|-|mtc: mirror-take: r: Short 0
+mirror-take mirror k|7|-|mtc: mirror-take: k: Absent
+mirror-take k eight|7|-|mtc: mirror-take: k: Absent
+mirror-take j eight|2|-|mtc: mirror-take: j: BadRecord 0
+mirror-take w eight|2|-|mtc: mirror-take: w: BadRecord 0
+mirror-take mirror|1|-|mtc: mirror-take: WrongCount 1 2
+mirror-entries mirror 8|0|8372156bc6c06db9|
+mirror-entries mirror 3|0|f884e614ff69dd06|
+mirror-entries mirror 9|4|-|mtc: mirror-entries: Beyond 8
+mirror-entries mirror 08|1|-|mtc: mirror-entries: BadNumber 2
+mirror-entries w 1|2|-|mtc: mirror-entries: w: BadRecord 0
+mirror-tile mirror|4|-|mtc: mirror-tile: NothingNew
+mirror-tile k|7|-|mtc: mirror-tile: k: Absent
+mirror-tile j|2|-|mtc: mirror-tile: j: BadRecord 0
+mirror-tile mirror six|1|-|mtc: mirror-tile: WrongCount 2 1
+init-cosigner signer 32473.2 32473.1 5 4 secret|0|4c943d8227c5919e|
+mirror-cosign signer mirror 0 1|4|-|mtc: mirror-cosign: Beyond 0
+mirror-advance signer mirror 9|4|-|mtc: mirror-advance: Beyond 8
+mirror-advance signer mirror 0|4|-|mtc: mirror-advance: NotNewer 0
+mirror-advance signer mirror 5|0|0798e83cf157953d|
+mirror-advance signer mirror 5|4|-|mtc: mirror-advance: NotNewer 5
+mirror-cosign signer mirror 0 4 >mirrored|0|4480b680ed1313f2|
+mirror-cosign signer mirror 4 6|4|-|mtc: mirror-cosign: Beyond 5
+mirror-cosign signer mirror 1 3|4|-|mtc: mirror-cosign: BadSubtree
+mirror-cosign signer mirror 3 9|4|-|mtc: mirror-cosign: BadSubtree
+mirror-cosign mirror mirror 0 4|1|-|mtc: mirror-cosign: BadWord 1
+mirror-advance mirror mirror 04|1|-|mtc: mirror-advance: BadNumber 3
+mirror-cosign mirror.tiles mirror 0 4|1|-|mtc: mirror-cosign: TilesName 1
+mirror-advance signer mirror.tiles 8|1|-|mtc: mirror-advance: TilesName 2
+mirror-advance signer mirror|1|-|mtc: mirror-advance: WrongCount 2 3
+mirror-cosign signer mirror 0|1|-|mtc: mirror-cosign: WrongCount 3 4
+mirror-advance w mirror 8|4|-|mtc: mirror-advance: NotMine 3bdbece5ca68d0025b68df77c829651c499113e8559c50f6c7bdcb91e04664d4 aeb6bcfe274b70a14fb067a5e5578264db0fa9b51af5e0ba159158f329e06e77
+mirror-cosign w mirror 0 2|4|-|mtc: mirror-cosign: NotMine 3bdbece5ca68d0025b68df77c829651c499113e8559c50f6c7bdcb91e04664d4 aeb6bcfe274b70a14fb067a5e5578264db0fa9b51af5e0ba159158f329e06e77
+mirror-cosign w mirror 1 3|4|-|mtc: mirror-cosign: NotMine 3bdbece5ca68d0025b68df77c829651c499113e8559c50f6c7bdcb91e04664d4 aeb6bcfe274b70a14fb067a5e5578264db0fa9b51af5e0ba159158f329e06e77
+mirror-advance k mirror 8|7|-|mtc: mirror-advance: k: Absent
+mirror-advance signer k 8|7|-|mtc: mirror-advance: k: Absent
+mirror-cosign k k.x 0 4|7|-|mtc: mirror-cosign: k: Absent
+mirror-advance mirror signer 8|2|-|mtc: mirror-advance: mirror: BadRecord 0
+mirror-cosign signer j 0 4|2|-|mtc: mirror-cosign: j: BadRecord 0
+mirror-cosign signer w 0 4|2|-|mtc: mirror-cosign: w: BadRecord 0
+mirror-init other_log 32473.9|0|ef0f2b2052a1b2d7|
+mirror-take other_log eight|0|480c3bf1052c9f88|
+mirror-advance signer other_log 8|4|-|mtc: mirror-advance: WrongLog
+mirror-cosign signer other_log 0 4|4|-|mtc: mirror-cosign: WrongLog
+mirror-init three 32473.1|0|d91bbe62cba87844|
+mirror-take three y|0|21a38796fb19737d|
+mirror-advance I three 3|4|-|mtc: mirror-advance: NotNewer 3
+mirror-cosign I three 0 2|0|cbd97c2b64038ebe|
+mirror-cosign w three 0 2|0|a62d42706511acd8|
+mirror-advance signer three 3|4|-|mtc: mirror-advance: NotMine 4e3bbb1f7b478dcfe71fb631631519a3bca12c9aefca1612bfce4c13a86264d4 3bdbece5ca68d0025b68df77c829651c499113e8559c50f6c7bdcb91e04664d4
+mirror-init many 32473.1|0|d91bbe62cba87844|
+mirror-take many zeros|0|5d9fdb0fa978b5a9|
+mirror-take many zeros|0|0ecfd601100357b7|
+mirror-tile many|0|259c13c4aad003e3|
+mirror-tile many|4|-|mtc: mirror-tile: NothingNew
+mirror-take many zeros|0|f73ecc6084aa7a8e|
+mirror-take many zeros|4|-|mtc: mirror-take: NothingNew
+mirror-entries many 257|0|82823076344d2111|
+mirror-tile many|0|957fac4f72d5a429|
+init-cosigner later 32473.3 32473.1 5 4 secret_of_two|0|edc69ec3a87a70e1|
+mirror-advance later many 300|0|a1157dc971e22b3c|
+mirror-advance later many 65536|0|c57877fb7b03c466|
+mirror-cosign later many 256 512|0|c0ee723c169ab6b3|
 drill 7|0|bdada2c469064269|
 drill 7|0|bdada2c469064269|
 drill|1|-|mtc: drill: WrongCount 0 1
@@ -351,8 +433,9 @@ drill 07|1|-|mtc: drill: BadNumber 1
 drill 9223372036854775808|1|-|mtc: drill: BadNumber 1
 drill -7|1|-|mtc: drill: BadWord 1
 TABLE
-if [ "$(cat j w m o I | sha256sum | cut -d' ' -f1)" != 46bf0b413339342139cc2f8fd50485302cac03829614089bcd7d54b6bdcac201 ]; then
-    echo "wrong: the journals"
+found=$(cat j w m o I mirror signer three many many.tiles later | sha256sum | cut -d' ' -f1)
+if [ "$found" != f5fd5a734ae61cf6c55e06ef46df8614c7806e22598becee7ad4b4eeb13c54dc ]; then
+    echo "wrong: the journals: $found"
     wrong=1
 fi
 echo "$count commands of ${1-mtc} compared"

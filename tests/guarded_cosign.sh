@@ -62,7 +62,7 @@ log cosign twin subtree >signature1
 log cosign twin subtree >signature2
 
 # Words, and the first run.
-guarded "64 0 *begin, advance, cosign or child"
+guarded "64 0 *begin, advance, cosign, child, mirror-advance or mirror-cosign"
 guarded "64 0 *cosign JOURNAL KEPT REQUEST" cosign s kept/s
 guarded "64 0 *none is no file" begin none kept/none
 guarded "64 0 *s is a journal" begin s s
@@ -166,6 +166,32 @@ cp old two
 guarded "20 0 *has lost records*" child two kept/two
 same two old "a journal that was put back gets no lower tree"
 cp new two
+
+# Through a mirror: it advances and signs as the program does, and an old copy is refused.
+log entries j 4 >entries
+log mirror-init m 32473.1 >/dev/null
+log mirror-take m entries >/dev/null
+for s in mirrored twin_of_mirrored; do log init-cosigner $s 32473.4 32473.1 5 8 secret >/dev/null; done
+log mirror-advance twin_of_mirrored m 4 >advanced
+log mirror-cosign twin_of_mirrored m 0 4 >signature0
+log mirror-cosign twin_of_mirrored m 0 4 >signature1
+guarded "64 0 *mirror-advance JOURNAL KEPT MIRROR SIZE" mirror-advance mirrored kept/mirrored 4
+guarded "64 0 *mirror-cosign JOURNAL KEPT MIRROR START END" mirror-cosign mirrored kept/mirrored m 0
+guarded "0 0 " begin mirrored kept/mirrored
+guarded "0 $(wc -c <advanced) " mirror-advance mirrored kept/mirrored m 4
+same out advanced "what mirror-advance prints"
+guarded "4 0 mtc: mirror-cosign: Beyond 4" mirror-cosign mirrored kept/mirrored m 0 8
+guarded "0 $(wc -c <signature0) " mirror-cosign mirrored kept/mirrored m 0 4
+same out signature0 "the first signature through a mirror"
+cp mirrored old
+guarded "0 $(wc -c <signature1) " mirror-cosign mirrored kept/mirrored m 0 4
+same out signature1 "the second signature through a mirror"
+cp mirrored new
+cp old mirrored
+guarded "20 0 *has lost records*" mirror-cosign mirrored kept/mirrored m 0 4
+guarded "20 0 *has lost records*" mirror-advance mirrored kept/mirrored m 4
+same mirrored old "a journal that was put back gets no record"
+cp new mirrored
 
 # Another run, and a place that takes no export.
 cp s new

@@ -1,7 +1,7 @@
 #!/usr/bin/env python3
 """Changes certificates, proofs, signatures, stores, requests, entries, exports and journals, and compares what `verify`,
-`audit`, `issue`, `certs`, `advance` and `child` say of them with what the readers of tests/reference say; and what is then in
-a journal. The keys of cosigners have one level or two, and entries stand in records of their own or several in one.
+`audit`, `issue`, `certs`, `advance`, `child` and commands of a mirror say of them with what the readers of tests/reference say;
+and what is then in a journal. The keys of cosigners have one level or two, and entries stand in records of their own or several in one.
 
 Where an element of a certificate is changed, dropped, doubled or moved, the lengths around it are fitted: so the change
 is met where it stands, and not as a length that doesn't fit. Else one byte is changed at a time, each of a file to each of
@@ -31,6 +31,9 @@ SHOWN = 2000
 KINDS = rows.KINDS + single_bytes.KINDS + cuts.KINDS + judgements.KINDS + requests.KINDS
 # A file that can be opened, and of which no byte can be read.
 UNREADABLE = "/proc/self/mem"
+# Where an output that is to fail begins in its file. No file may be longer than the output's then, and the end of a journal, which
+# is much shorter, is written again when it is opened.
+BEGINNING = 1 << 20
 
 
 class Run:
@@ -53,9 +56,10 @@ class Run:
             ended = subprocess.run([self.program, *words], cwd=self.folder, capture_output=True)
             return ended.returncode, ended.stdout, ended.stderr
         with (self.folder / "out").open("w+b") as out:
+            out.seek(BEGINNING)
             ended = subprocess.run([self.program, *words], cwd=self.folder, stdout=out, stderr=subprocess.PIPE,
-                                   preexec_fn=partial(limited, most))
-            out.seek(0)
+                                   preexec_fn=partial(limited, BEGINNING + most))
+            out.seek(BEGINNING)
             return ended.returncode, out.read(), ended.stderr
 
     def left(self, name):

@@ -84,7 +84,7 @@ completion() {
     done
     echo '    esac'
     echo '    case ${kinds[COMP_CWORD - 2]-} in'
-    echo '        J | S | FILE | CERT | STORE | REQUEST | REQUESTS | SECRET | SIGNATURES | LIST | ENTRIES | EXPORT | STATE | WATCH) COMPREPLY=($(compgen -f -- "$word")) ;;'
+    echo '        J | S | M | FILE | CERT | STORE | REQUEST | REQUESTS | SECRET | SIGNATURES | LIST | ENTRIES | EXPORT | STATE | WATCH) COMPREPLY=($(compgen -f -- "$word")) ;;'
     echo "        HEIGHT | TOP | LOW) COMPREPLY=(\$(compgen -W '5 10' -- \"\$word\")) ;;"
     echo "        WIDTH) COMPREPLY=(\$(compgen -W '1 2 4 8' -- \"\$word\")) ;;"
     echo '        *) COMPREPLY=() ;;'

@@ -16,7 +16,7 @@ from hostile import rows, single_bytes
 from reference import commands, tables
 
 # Each file of which the bytes are set here.
-SET = ("certificate", "store", "export", "entries", "request", "log")
+SET = ("certificate", "store", "export", "entries", "request", "log", "mirror-take", "mirror-advance")
 
 
 def file_words(files, failing, reported):

@@ -12,11 +12,11 @@ import sys
 import time
 from pathlib import Path
 
-from users import csr, hours, lists, published, readable, released, tls
+from users import csr, hours, lists, mirrored, published, readable, released, tls
 from users.scene import ROOT, LeftOut, Scene
 
 CHECKS = [csr.check_requests, csr.check_hostile_requests, lists.check_request_lists, published.check_published, published.check_refused_to_publish,
-          published.check_proved_by_go, readable.check_entries_to_certs, hours.check_authority_hour, hours.check_cosigner_day,
+          published.check_proved_by_go, readable.check_entries_to_certs, hours.check_authority_hour, hours.check_cosigner_day, mirrored.check_take_entries,
           released.check_units, released.check_container, released.check_release, tls.check_tls]
 
 

@@ -7,6 +7,8 @@
 #        tools/guarded_cosign.sh advance JOURNAL KEPT REQUEST    as `mtc advance JOURNAL REQUEST`
 #        tools/guarded_cosign.sh cosign JOURNAL KEPT REQUEST     as `mtc cosign JOURNAL REQUEST`
 #        tools/guarded_cosign.sh child JOURNAL KEPT              as `mtc child JOURNAL`
+#        tools/guarded_cosign.sh mirror-advance JOURNAL KEPT MIRROR SIZE        as `mtc mirror-advance JOURNAL MIRROR SIZE`
+#        tools/guarded_cosign.sh mirror-cosign JOURNAL KEPT MIRROR START END    as `mtc mirror-cosign JOURNAL MIRROR START END`
 # MTC names the program, and else it is `mtc`. The statuses are those of the program, and these:
 #   20  the journal has lost records, or it is another one: never sign with it again
 #   21  there is no stored export, or with `begin` there is one
@@ -24,7 +26,9 @@ refuse() {
 case "${1-}" in
     begin | child) [ $# -eq 3 ] || refuse 64 "$1 JOURNAL KEPT" ;;
     advance | cosign) [ $# -eq 4 ] || refuse 64 "$1 JOURNAL KEPT REQUEST" ;;
-    *) refuse 64 "begin, advance, cosign or child" ;;
+    mirror-advance) [ $# -eq 5 ] || refuse 64 "$1 JOURNAL KEPT MIRROR SIZE" ;;
+    mirror-cosign) [ $# -eq 6 ] || refuse 64 "$1 JOURNAL KEPT MIRROR START END" ;;
+    *) refuse 64 "begin, advance, cosign, child, mirror-advance or mirror-cosign" ;;
 esac
 command=$1 journal=$2 kept=$3
 mtc=${MTC-mtc}

@@ -24,14 +24,13 @@ class Place:
 WORDS, TOP = "crates/mtc_words", "crates/mtc_top"
 PLACES = [
     Place(f"{WORDS}/src", "a variant of `Command`; a variant of `Name`, with its word, how many arguments it takes and whether the first "
-          "is a journal; a line of `build`",
+          "is a journal; a line of `build`, and of `journal_fault` where it names a journal",
           [("command.rt", r"/// `{word}[ `]"), ("command.rt", r"^    {Command}[,(]"), ("name.rt", r'"{word}" => Some\(Name::{Name}\)'),
            ("name.rt", r"Name::{Name}\b.* => \d"), ("name.rt", r"Name::{Name}\b.* => (?:true|false)"), ("building.rt", r"Name::{Name}\b")]),
-    Place(f"{WORDS}/specs", "the same tables: its value with its ranges and its journal, its name, and what its arguments say",
+    Place(f"{WORDS}/specs", "the same tables: its value with its ranges and its journals, its name, and what its arguments say",
           [("Commands.antt", r"^  {value} :"), ("Commands.antt", r"^command_value \(?{Command}\b"), ("Commands.antt", r"^IsInRange \(?{value}\b"),
-           ("Commands.antt", r"^journal_of \(?{value}\b"), ("Names.antt", r'codes "{word}"'), ("Names.antt", r"^word_count {Name} ="),
+           ("Commands.antt", r"^journals_of \(?{value}\b"), ("Names.antt", r'codes "{word}"'), ("Names.antt", r"^word_count {Name} ="),
            ("Names.antt", r"^takes_journal {Name} ="), ("Words.antt", r"^command_from {Name} ")]),
-    Place(f"{WORDS}/proofs/Journals.antt", "a line of `from_words`", [("", r"^from_words {Name} ")]),
     Place(f"{TOP}/src/top.rt", "a line of `perform`, or of `perform_reading` if it has no journal: the call, in the crate of its role", [("", r"Command::{Command}\b(?!.*unreachable)")]),
     Place("crates/mtc_plans", "in `specs/Commands.antt` a line of `plan_of`: the plan, which stands beside it in `specs/`, has its inputs, "
           "its journals and its steps. In `specs/Cited.antt` a line of `command_outcome`: the outcome that its contract cites, a nest of the "

@@ -93,10 +93,10 @@ def full_at_first(folder, disk):
     """A command that begins a journal on a full disk leaves an empty file; with space, and without that file, it does its work."""
     fill(disk, 0)
     for command in BEGINNING:
-        asks, words = ASKS[command.is_of_log], command.on("d/new")
+        asks, words = ASKS[command.kind].format("d/new"), command.on("d/new")
         yield from unlike(command.name, folder.run(words), failed(command.name, "d/new"))
         yield from unlike("its file", folder.bytes("d/new"), b"")
-        yield from unlike(asks, folder.run([asks, "d/new"]), (2, "", f"mtc: {asks}: d/new: NotJournal\n"))
+        yield from unlike(asks, folder.run(asks), (2, "", f"mtc: {asks.split()[0]}: d/new: NotJournal\n"))
         yield from unlike("again", folder.run(words), (7, "", f"mtc: {command.name}: d/new: Exists\n"))
         (disk / "filler").unlink()
         (disk / "new").unlink()
@@ -141,7 +141,7 @@ def check_read_only(scene, _kills):
     with mounted(disk, "--bind", disk):
         mount("-o", "remount,bind,ro", disk)
         for command in COMMANDS:
-            words = [f"d/{word}" if word in before or word == "new" else word for word in command.words]
+            words = [command.name, *(f"d/{word}" if word in before or word == "new" else word for word in command.words[1:])]
             yield from unlike(command.name, scene.run(words), failed(command.name, words[1]))
         yield from unlike("keygen", scene.run("keygen 5 4 d/secret")[0], 0)
     yield from unlike("the files", {path.name: path.read_bytes() for path in disk.iterdir()} == before, True)

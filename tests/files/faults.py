@@ -88,13 +88,13 @@ def check_first_append(scene, _kills):
     """A write or a sync that fails within the first append of a new journal leaves a file that is empty, has no record yet, or is whole"""
     wants_trace(scene)
     for command in BEGINNING:
-        asks = ASKS[command.is_of_log]
+        asks = ASKS[command.kind].format("new")
         for (fault, file, _), refusal in zip(appending_faults(scene, command), NEW_FILES):
             scene.restore()
             what = f"{command.name} {fault}"
             yield from unlike(what, at_fault(scene, command.words, fault), failed(command.name, file))
-            status, _, err = scene.run([asks, "new"])
-            wanted = (2, f"mtc: {asks}: new: {refusal}\n") if refusal else (0, "")
+            status, _, err = scene.run(asks)
+            wanted = (2, f"mtc: {asks.split()[0]}: new: {refusal}\n") if refusal else (0, "")
             yield from unlike(f"{asks} after {what}", (status, err), wanted)
             yield from unlike(f"again after {what}", scene.run(command.words), (7, "", command.line("new", "Exists")))
 

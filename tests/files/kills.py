@@ -57,9 +57,9 @@ def check_kills(folder, kills):
 
 
 def check_kills_again(scene, kills):
-    """`landmark`, `switch`, `advance` and `child` are killed at random times: the journal opens, and the command given again says whether its record is there"""
+    """Commands that say of themselves whether their record is there are killed at random times: the journal opens, and the command given again says so"""
     for command in ADDING:
-        if not command.again or command.name == "tile":
+        if not command.again or command.writes_tiles:
             continue
         span, reported, unsaid = seconds(scene, command.words), 0, 0
         for number in range(kills):
@@ -82,15 +82,15 @@ UNFINISHED = {(7, "Absent"), (2, "NotJournal"), (2, "CutShort"), (2, "BadLength"
 
 def new_file(scene, asks):
     """How the first command on the new file ends: its status, and the name of its refusal, if it is one."""
-    status, _, err = scene.run([asks, "new"])
-    name = err.removeprefix(f"mtc: {asks}: new: ").split()
+    status, _, err = scene.run(asks)
+    name = err.removeprefix(f"mtc: {asks.split()[0]}: new: ").split()
     return status, name[0] if name else ""
 
 
 def check_first_kills(scene, kills):
-    """`init-log`, `init-cosigner` and `init-cosigner2` are killed at random times: what is left is no file, one that is refused, or the whole journal"""
+    """Commands that begin a journal are killed at random times: what is left is no file, one that is refused, or the whole journal"""
     for command in BEGINNING:
-        asks = ASKS[command.is_of_log]
+        asks = ASKS[command.kind].format("new")
         scene.restore()
         span, reported, found = seconds(scene, command.words), 0, {}
         for number in range(kills):
@@ -120,7 +120,8 @@ def at_most(length):
 
 def check_file_limit(scene, _kills):
     """Under a limit on the length of files (`ulimit -f`) an append ends by the system's signal, and the old records stay"""
-    for command in ADDING:
+    # A second journal is longer, and its end is written again.
+    for command in (command for command in ADDING if not command.mirror):
         length = len(scene.kept[command.journal])
         # The write of the record has no space at all, or space for a part of it.
         for space in (0, 10):

@@ -17,7 +17,7 @@ def held(scene, file):
 def check_locks(scene, _kills):
     """A journal or a file of tiles that another process has locked is not opened, and stays as it is; inputs are not locked"""
     for command in OPENING:
-        for file in filter(None, (command.journal, command.tiles)):
+        for file in filter(None, (*command.journals, command.tiles)):
             scene.restore()
             for how in (fcntl.LOCK_EX, fcntl.LOCK_SH):
                 with held(scene, file) as lock:
@@ -32,7 +32,7 @@ def check_locks(scene, _kills):
     yield from unlike("a file of tiles beside a locked journal", scene.bytes("j.tiles"), None)
     for command in COMMANDS:
         scene.restore()
-        locks = [held(scene, word) for word in command.words[2:] if word in scene.kept]
+        locks = [held(scene, word) for word in command.words[2:] if word in scene.kept and word != command.mirror]
         for lock in locks:
             fcntl.flock(lock, fcntl.LOCK_EX)
         yield from unlike(f"{command.name} with locked inputs", scene.run(command.words)[0], 0)
@@ -48,7 +48,9 @@ def check_modes(folder, _kills):
     folder.run(NEW_LOG, umask=0)
     folder.run("checkpoint j", umask=0)
     folder.run(f"init-cosigner s {COSIGNER} {LOG} 5 4 secret", umask=0)
-    for file in ("j", "j.tiles", "s"):
+    folder.run(f"mirror-init m {LOG}", umask=0)
+    folder.run("mirror-entries m 0", umask=0)
+    for file in ("j", "j.tiles", "s", "m", "m.tiles"):
         yield from unlike(f"the mode of {file}", oct((folder.path / file).stat().st_mode & 0o7777), "0o600")
     (folder.path / "j.tiles").unlink()
     before, inner = (folder.bytes(), folder.bytes("s")), folder.path / "d"
@@ -69,13 +71,13 @@ def check_modes(folder, _kills):
 
 
 def check_others(scene, _kills):
-    """A cosigner's journal with which others may do anything is `Failed`, of each command on it, and stays; a log's is opened"""
+    """A cosigner's journal with which others may do anything is `Failed`, of each command on it, and stays; another's is opened"""
     for command in OPENING:
         for bits in (0o040, 0o020, 0o010, 0o004, 0o002, 0o001, 0o066):
             scene.restore()
             (scene.path / command.journal).chmod(0o600 | bits)
             status, out, err = scene.run(command.words)
-            if command.is_of_log:
+            if command.kind != "cosigner":
                 yield from unlike(f"{command.name} with mode {bits:o}", (status, err), (0, ""))
             else:
                 yield from unlike(f"{command.name} with mode {bits:o}", (status, out, err), failed(command.name, command.journal))

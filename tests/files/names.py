@@ -5,7 +5,7 @@ import os
 import shutil
 from pathlib import Path
 
-from .commands import COSIGNER, HEADER, LOG, LOGS, ON_LOGS, records
+from .commands import BY_TILED, COSIGNER, HEADER, LOG, MIRRORS, ON_LOGS, WITH_TILES, records
 from .folder import failed, locked, unlike
 from .tracing import traced, wants_trace
 
@@ -39,9 +39,13 @@ def check_refusals(folder, _kills):
             ("export loop", 5, "Failed"), ("export link", 7, "Absent"), ("export copy", 5, "Failed"),
             ("advance j none", 7, "Absent"), ("cosign j folder", 5, "Failed"), ("cosign j none", 7, "Absent"),
             (f"init-cosigner none/x {new}", 5, "Failed"), (f"init-cosigner folder {new}", 7, "Exists"),
-            (f"init-cosigner link {new}", 7, "Exists"), (f"init-cosigner j {new}", 7, "Exists")):
+            (f"init-cosigner link {new}", 7, "Exists"), (f"init-cosigner j {new}", 7, "Exists"),
+            ("mirror-init none/x 32473.1", 5, "Failed"), ("mirror-init folder 32473.1", 7, "Exists"),
+            ("mirror-init j 32473.1", 7, "Exists"), ("mirror-entries none 0", 7, "Absent"), ("mirror-entries copy 0", 5, "Failed"),
+            ("mirror-take j none", 7, "Absent"), ("mirror-take j folder", 5, "Failed"), ("mirror-tile loop", 5, "Failed"),
+            ("mirror-advance none j 1", 7, "Absent"), ("mirror-cosign folder j 0 1", 5, "Failed")):
         command, *rest = words.split()
-        file = rest[1] if command in ("issue", "advance", "cosign") else rest[0]
+        file = rest[1] if command in ("issue", "advance", "cosign", "mirror-take") else rest[0]
         wanted = (status, "", f"mtc: {command}: {file}: {name}\n")
         yield from unlike(words, folder.run([command, *rest]), wanted)
     yield from unlike("a word that isn't UTF-8", folder.run([b"member", b"\xff"]), (1, "", "mtc: NotUtf8\n"))
@@ -104,58 +108,68 @@ def check_hard_links(scene, _kills):
     yield from unlike("issue by the first name", scene.run("issue j r"), (0, "issued 258\n", ""))
     yield from unlike("advance", scene.run("advance more forward"), (0, "advanced 257\n", ""))
     yield from unlike("advance by the first name", scene.run("advance s forward"), (4, "", "mtc: advance: NotNewer 257\n"))
+    # A command that is given one journal by two names opens it twice, and its own lock is in the way.
+    for words in ("mirror-advance s ./s 4", "mirror-cosign s more 0 4", "mirror-cosign m ./m 0 4"):
+        name, first, second, *_ = words.split()
+        before = scene.bytes(first)
+        wanted = locked(name, second) if first == "s" else (2, "", f"mtc: {name}: {first}: BadRecord 0\n")
+        yield from unlike(words, scene.run(words), wanted)
+        yield from unlike(f"the journal after {words}", scene.bytes(first) == before, True)
 
 
 def check_tiles_that_lead_back(scene, _kills):
-    """Where the name of a log's tiles leads to the log's journal, no command works on it, and the journal stays"""
-    for name in LOGS:
+    """Where the name of a file of tiles leads to the journal beside it, no command works on it, and the journal stays"""
+    for name, commands in BY_TILED.items():
         before, tiles = scene.bytes(name), scene.path / f"{name}.tiles"
         for link in (tiles.symlink_to, tiles.hardlink_to):
             tiles.unlink()
             link(scene.path / name)
-            for command in ON_LOGS:
+            for command in commands:
                 wanted = failed(command.name, tiles.name)
                 yield from unlike(command.name, (scene.run(command.on(name)), scene.bytes(name) == before), (wanted, True))
 
 
 def other_tiles(scene):
-    """Ways in which a log's file of tiles is another file."""
-    for file in ("s", "k"):
+    """Ways in which a file of tiles is another file."""
+    for file in ("s", "k", "m"):
         yield f"a symbolic link to {file}", lambda tiles: tiles.symlink_to(scene.path / file)
         yield f"a hard link to {file}", lambda tiles: tiles.hardlink_to(scene.path / file)
-        yield f"{file} itself", lambda tiles: (scene.path / file).rename(tiles)
+        yield f"a copy of {file}", lambda tiles: shutil.copy(scene.path / file, tiles)
     for file in ("full", "none", "nowhere"):
         yield f"a symbolic link to {file}", lambda tiles: tiles.symlink_to(file)
     yield "a FIFO", os.mkfifo
 
 
-def led_to(scene, make):
-    """Makes `j.tiles` lead to another file, and answers what all files are then."""
+def led_to(scene, make, tiles):
+    """Makes the file of tiles lead to another file, and answers what all files are then."""
     # Nothing is restored through a link.
-    (scene.path / "j.tiles").unlink(missing_ok=True)
+    tiles.unlink(missing_ok=True)
     scene.restore()
-    (scene.path / "j.tiles").unlink()
-    make(scene.path / "j.tiles")
-    if not (scene.path / "j.tiles").is_symlink():
-        scene.own(scene.path / "j.tiles")
+    tiles.unlink()
+    make(tiles)
+    if not tiles.is_symlink():
+        scene.own(tiles)
     return scene.files()
 
 
 def check_tiles_of_others(scene, _kills):
-    """A file of tiles that is a journal, a symbolic link or a FIFO is `Failed` of each command on the log, and no file is changed by it"""
+    """A file of tiles that is a journal, a symbolic link or a FIFO is `Failed` of each command that opens it, and no file is changed by it"""
     scene.said("init-log k 32473.1 2 9")
     scene.write("full", bytes(8192))
     scene.kept = scene.files()
     for what, make in other_tiles(scene):
-        before = led_to(scene, make)
-        for command in ON_LOGS:
-            found, wanted = scene.run(command.on("j")), failed(command.name, "j.tiles")
-            yield from unlike(f"{command.name}, {what}", (found, scene.files() == before), (wanted, True))
+        for name in ("j", *MIRRORS):
+            tiles = scene.path / f"{name}.tiles"
+            before = led_to(scene, make, tiles)
+            for command in BY_TILED[name]:
+                found, wanted = scene.run(command.on(name)), failed(command.name, tiles.name)
+                yield from unlike(f"{command.name}, {what}", (found, scene.files() == before), (wanted, True))
+            tiles.unlink()
     yield from unlike("a file that a link leads to", (scene.path / "nowhere").exists(), False)
 
 
 def check_no_journal(scene, _kills):
-    """A file that is no journal is `NotJournal` of each command on a log, which makes no file of tiles beside it, nor looks for one"""
+    """A file that is no journal is `NotJournal` of each command that opens tiles, which makes no file of tiles beside it, nor looks for one"""
     kinds = {"empty": b"", "short": HEADER[:-1], "other": HEADER[:-1] + b"\1", "notes": b"# Notes\n" * 3}
     for name, text in kinds.items():
         scene.write(name, text)
@@ -163,7 +177,7 @@ def check_no_journal(scene, _kills):
     (scene.path / "linked.tiles").symlink_to("nowhere")
     before, names = scene.files(), scene.names()
     for name in (*kinds, "linked"):
-        for command in ON_LOGS:
+        for command in WITH_TILES:
             found = scene.run(command.on(name))
             yield from unlike(f"{command.name} {name}", found, (2, "", command.line(name, "NotJournal")))
     yield from unlike("the files", (scene.files() == before, scene.names()), (True, names))

@@ -116,7 +116,7 @@ class Judged(Scene):
 
     def __init__(self, program):
         super().__init__(program)
-        for file, words in (("light", "light-cert j 1"), ("marks", "landmarks j"), ("entries", "entries j 257"),
+        for file, words in (("light", "light-cert j 1"), ("marks", "landmarks j"),
                             ("export", "export s"), ("state", f"monitor-init {LOG}"), ("all", "consist j 0 257")):
             self.write(file, self.said(words))
         self.write("watch", b"example\n")
@@ -132,7 +132,7 @@ READING = [
     ("keygen 5 4 secret", None), (f"init-cosigner new {COSIGNER} {LOG} 5 4 secret", None),
     (f"init-cosigner2 new {COSIGNER} {LOG} 5 5 4 secret", None), ("issue j r", "issued 257\n"),
     ("issue-list j list", "issued 257\nissued 258\n"), ("advance s forward", "advanced 257\n"), ("cosign s part", None),
-    ("cert j 1 0 4 none", None), ("certs j 1 3 0 4 none", None),
+    ("cert j 1 0 4 none", None), ("certs j 1 3 0 4 none", None), ("mirror-take m entries", "mirrored 257\n"),
     ("trust-landmarks marks 2 entries", None), (f"audit light trusting {NOW} entries none", "stands 1\n"),
     ("quarrel export", "agree\n"), ("root entries", None), ("held export", None), ("monitor state watch all entries", None),
 ]
@@ -159,7 +159,7 @@ def check_pipes(scene, _kills):
         yield from unlike(text, (wanted[0], wanted[2], says in (None, wanted[1])), (0, "", True))
         files = scene.files()
         for place, word in enumerate(words):
-            for way in WAYS if word in scene.kept and word not in ("j", "s") and place else ():
+            for way in WAYS if word in scene.kept and word not in ("j", "s", "m") and place else ():
                 scene.restore()
                 yield from unlike(f"{text}, {word} by {way}", given_by_pipe(scene, words, place, way), wanted)
                 yield from unlike(f"files after {text}, {word} by {way}", scene.files() == files, True)
@@ -171,12 +171,12 @@ def check_no_files(scene, _kills):
     scene.own(scene.path / "pipe")
     before = scene.names()
     for journal in ("/dev/null", "pipe"):
-        for words in ("init-log {} 32473.1 2 9", f"init-cosigner {{}} {COSIGNER} {LOG} 5 4 secret"):
+        for words in ("init-log {} 32473.1 2 9", f"init-cosigner {{}} {COSIGNER} {LOG} 5 4 secret", "mirror-init {} 32473.1"):
             name = words.split()[0]
             wanted = (7, "", f"mtc: {name}: {journal}: Exists\n")
             yield from unlike(f"{name} {journal}", scene.run(words.format(journal), seconds=AWAITED), wanted)
         for words in ("checkpoint {}", "issue {} r", "tile {}", "export {}", "cosign {} part", "advance {} forward", "child {}",
-                      "tile-anew {}"):
+                      "tile-anew {}", "mirror-take {} entries", "mirror-tile {}", "mirror-advance s {} 4", "mirror-cosign {} m 0 4"):
             name = words.split()[0]
             yield from unlike(f"{name} {journal}", scene.run(words.format(journal), seconds=AWAITED), failed(name, journal))
     yield from unlike("the folder", scene.names(), before)

@@ -60,7 +60,7 @@ def traced(folder, words, *more):
 
 def at_fault(folder, words, fault):
     """How a command ends of which a call of the system fails, or brings a signal: of those on files of the folder alone."""
-    names = ["j", "j.tiles", "t", "t.tiles", "s", "c", "new", "new.tiles", "."]
+    names = ["j", "j.tiles", "t", "t.tiles", "s", "c", "m", "m.tiles", "new", "new.tiles", "."]
     paths = [part for file in names for part in ("-P", (folder.path / file).resolve())]
     watched = ["-e", f"trace={fault.split(':')[0]}", "-e", f"inject={fault}"]
     return folder.run(words, before=["strace", "-qq", "-o", new_trace(folder), *watched, *paths])
@@ -81,15 +81,18 @@ def tail_calls(length):
 
 
 def opening(scene, command):
-    """The calls of a command until its journal is open: locks, its end written again, and syncs. So many have its page. A file of
-    tiles that is made is synced, with its folder."""
-    journal, tiles = command.journal, command.tiles
+    """The calls of a command until its journals are open, one after the other: locks, its end written again, and syncs. So many
+    have its page. A file of tiles that is made is synced, with its folder."""
     if command.begins:
-        return [f"flock {journal}", f"fsync {journal}", "fsync ."]
-    pages = len(tail_pages(len(scene.kept[journal])))
-    made = [f"fsync {tiles}", "fsync ."] if tiles not in scene.kept else []
-    tiled = [f"flock {tiles}", *made] if tiles else []
-    return [f"flock {journal}", *[f"pwrite64 {journal}"] * pages, "fsync .", *tiled, f"fsync {journal}"]
+        return [f"flock {command.journal}", f"fsync {command.journal}", "fsync ."]
+    calls = []
+    for journal in command.journals:
+        pages = len(tail_pages(len(scene.kept[journal])))
+        tiles = command.tiles if command.tiles == f"{journal}.tiles" else None
+        made = [f"fsync {tiles}", "fsync ."] if tiles not in scene.kept else []
+        tiled = [f"flock {tiles}", *made] if tiles else []
+        calls += [f"flock {journal}", *[f"pwrite64 {journal}"] * pages, "fsync .", *tiled, f"fsync {journal}"]
+    return calls
 
 
 def appending(command):

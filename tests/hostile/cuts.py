@@ -3,13 +3,13 @@
 from itertools import chain, product
 
 from cosigned_log import vector
-from reference import cosigner, journal
+from reference import cosigner, journal, mirror
 from reference.cosigner import Sign
 from reference.hss import u32
 from reference.log import BATCH, batch_body
 
-from .scenes import LARGER, LATER, SPAN, advance, advanced, batch_bodies, export, items, log, log_bodies, lower_export
-from .scenes import lower_settings, lower_steps, sign_body, steps, used_up
+from .scenes import FORMLESS, LARGER, LATER, SPAN, advance, advanced, batch_bodies, export, items, log, log_bodies, lower_export
+from .scenes import lower_settings, lower_steps, mirror_bodies, steps, used_up
 from .single_bytes import answered, found, scenes
 
 
@@ -32,7 +32,7 @@ def lists_of(parts):
 
 def sign(number, start, end, size):
     """The body of the record of a signature of a subtree, at this size."""
-    return sign_body(Sign(number, start, end, log().hash(start, end), log().proof(start, end, 0, size)))
+    return cosigner.sign_body(Sign(number, start, end, log().hash(start, end), log().proof(start, end, 0, size)))
 
 
 def bodies():
@@ -79,6 +79,11 @@ def lists():
     for label, batch in product(("batches", "certs"), batches()):
         yield label, journal.written([settings, batch])
         yield label, journal.written([settings, batch, *later])
+    mirrored = [*mirror_bodies(), mirror.batch_body([FORMLESS]), mirror.tiles_body(256)]
+    for label, parts in product(("mirror", "mirror-take", "mirror-advance"), lists_of(mirrored)):
+        yield label, journal.written(parts)
+    for parts in lists_of([vector(text) + vector(key) for text, key in [*items()[:3], FORMLESS, (bytes(2), b"")]]):
+        yield "mirror-list", b"".join(parts)
     for parts in lists_of([vector(text) + vector(key) for text, key in items()[:4]]):
         yield "entries", b"".join(parts)
     for parts in lists_of([vector(text) for item in items()[:3] for text in item]):

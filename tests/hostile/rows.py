@@ -3,11 +3,11 @@
 from itertools import product
 from typing import NamedTuple
 
-from reference import commands, journal
+from reference import commands, journal, mirror
 
 from .files import LOG, asked
-from .scenes import HELD, NOW, advance_request, advanced, cosigned, entries, export, grown_log, issue_request, new_log, ruled
-from .scenes import trusting
+from .scenes import HELD, LARGER, NOW, advance_request, advanced, cosigned, entries, export, grown_log, issue_request, items
+from .scenes import longer_list, mirror_bodies, mirrored, new_log, ruled, trusting
 
 # So many bytes a call an output takes that takes all.
 ALL = 1000
@@ -70,6 +70,31 @@ def logs():
             "a-header-that-is-cut": text[:size - 1], "longer": grown_log()}
 
 
+def mirrors():
+    """Journals of a mirror: a good one, and others whose last record is another or is cut, or that are none."""
+    *first, last = mirror_bodies()
+    other = {"an-item-less": last[:2] + b"\1" + last[3:], "no-item": last[:1] + bytes(2), "a-byte-less": last[:-1],
+             "a-key-less": mirror.batch_body([(items()[2][0], b"")]), "a-key-more": mirror.batch_body([(bytes(2), items()[2][1])]),
+             "tiles-of-three": mirror.tiles_body(3), "a-second-mirror": first[0], "a-batch-of-a-log": b"\6" + last[1:]}
+    return {"good": mirrored(), "fewer": journal.written(first), "none": journal.written([]), "without-a-mirror": journal.written([last]),
+            "a-log": grown_log(), "a-cosigner": advanced(), "a-record-that-is-cut": mirrored()[:-2],
+            **{label: journal.written([*first, body]) for label, body in other.items()}}
+
+
+def mirror_rows():
+    """What a mirror takes, what it writes, and what it has a cosigner hold."""
+    lists = {"good": longer_list(), "as-many": longer_list()[:-6], "fewer": entries(2), "no-item": b"", "another-item": entries(LARGER),
+             "another-first-item": b"\0\1\7\0\0" + longer_list(), "an-item-that-is-cut": longer_list()[:-1]}
+    for label, text in lists.items():
+        yield Row(f"mirror-take:{label}", "mirror-take m e".split(), {"m": mirrored(), "e": text}, reported=("m", "m.tiles"))
+    for label, text in mirrors().items():
+        yield Row(f"mirror-entries:{label}", "mirror-entries m 4".split(), {"m": text}, reported=("m", "m.tiles"))
+    for label, signer, text in (("good", advanced(), mirrored()), ("fewer", advanced(), mirrors()["fewer"]),
+                                ("another-list", advanced(LARGER), mirrored()), ("another-log", advanced(), changed(mirrored(), {26: 2})),
+                                ("two-cosigners", advanced(), advanced()), ("two-mirrors", mirrored(), mirrored())):
+        yield Row(f"mirror-advance:{label}", "mirror-advance s m 4".split(), {"s": signer, "m": text}, reported=("s", "m", "m.tiles"))
+
+
 def log_words():
     """The commands on such a journal, by their names."""
     return {words.split()[0]: words.split() for words in ("checkpoint j", "issue j r", "cert j 1 0 2 e")}
@@ -93,9 +118,12 @@ def rows():
     for (name, words), (label, text) in product(log_words().items(), logs().items()):
         given = {"j": text, "r": issue_request(), "e": b""}
         yield Row(f"{name}:{label}", words, {file: given[file] for file in words if file in given}, reported=("j", "j.tiles"))
+    yield from mirror_rows()
     yield Row("show:good", ["show", "c"], files)
     yield Row("show:the-output-fails", ["show", "c"], files, takes=1, call=7)
     yield Row("verify:the-store-fails", verify_words(), files, failing="store")
+    yield Row("mirror-take:the-list-fails", "mirror-take m e".split(), {"m": mirrored(), "e": b""}, failing="e", reported=("m",))
+    yield Row("mirror-entries:the-output-fails", "mirror-entries m 4".split(), {"m": mirrored()}, takes=100, call=3)
 
 
 def answer(row):

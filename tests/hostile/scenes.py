@@ -6,7 +6,7 @@ from hashlib import sha384
 
 from cosigned_log import vector
 from hss_vectors import Tree
-from reference import certificate, cosigner, entry, journal, log as log_records, merkle, proof, request, store
+from reference import certificate, cosigner, entry, journal, log as log_records, merkle, mirror, proof, request, store
 from reference.cosigner import Advance, Sign
 from reference.hss import u32
 
@@ -52,17 +52,11 @@ def advance(size, held):
     return Advance(size, root(size), log().proof(0, held, 0, size) if held else [])
 
 
-def sign_body(step):
-    """The body of the record of a signature."""
-    place = step.start.to_bytes(8, "big") + step.end.to_bytes(8, "big")
-    return bytes([cosigner.SIGN]) + u32(step.number) + place + step.node + vector(b"".join(step.proof))
-
-
 @cache
 def steps():
     """The records of the cosigner: it advances, signs the subtree, and advances again."""
     signed_step = Sign(0, *SPAN, log().hash(*SPAN), log().proof(*SPAN, 0, HELD))
-    return [cosigner.advance_body(advance(HELD, 0)), sign_body(signed_step),
+    return [cosigner.advance_body(advance(HELD, 0)), cosigner.sign_body(signed_step),
             cosigner.advance_body(advance(LATER, HELD))]
 
 
@@ -166,16 +160,39 @@ def with_child():
 def used_up():
     """Its records when each key of the lower tree has signed the subtree."""
     path = log().proof(*SPAN, 0, HELD)
-    signs = [sign_body(Sign(number, *SPAN, log().hash(*SPAN), path)) for number in range(1 << HEIGHT_5)]
+    signs = [cosigner.sign_body(Sign(number, *SPAN, log().hash(*SPAN), path)) for number in range(1 << HEIGHT_5)]
     return [lower_settings(), *lower_steps()[:2], *signs]
 
 
-@cache
-def advanced():
-    """The journal of a cosigner that holds a part of the log."""
+def settings():
+    """The body of the first record of a cosigner's journal."""
     ids = short(store.anchor_id(COSIGNERS[0])) + short(store.anchor_id(LOG))
-    first = bytes([cosigner.COSIGNER]) + ids + u32(HEIGHT_5) + u32(WIDTH_1) + secret()
-    return journal.written([first, cosigner.advance_body(advance(HELD, 0))])
+    return bytes([cosigner.COSIGNER]) + ids + u32(HEIGHT_5) + u32(WIDTH_1) + secret()
+
+
+@cache
+def advanced(size=HELD):
+    """The journal of a cosigner that holds a part of the log."""
+    return journal.written([settings(), cosigner.advance_body(advance(size, 0))])
+
+
+# An entry that isn't in its form, which has no key.
+FORMLESS = (b"\0\1\x20", b"")
+
+
+def mirror_bodies():
+    """The records of a mirror: two entries of the log, and then one and another that isn't in its form."""
+    return [mirror.mirror_body(store.anchor_id(LOG)), mirror.batch_body(items()[:2]), mirror.batch_body([items()[2], FORMLESS])]
+
+
+def mirrored():
+    """The journal of that mirror."""
+    return journal.written(mirror_bodies())
+
+
+def longer_list():
+    """Its entries file, with one entry more."""
+    return entries(3) + vector(FORMLESS[0]) + vector(b"") + vector(bytes(2)) + vector(b"")
 
 
 def advance_request():

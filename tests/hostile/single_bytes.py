@@ -9,11 +9,12 @@ from reference import commands, journal
 from .files import asked
 from .rows import audit_words, changed, log_words, verify_words
 from .scenes import LARGER, advance_request, advanced, batched_log, childless, cosigned, entries, export, grown_log, issue_request
-from .scenes import lower_cosigned, lower_export, lower_ruled, ruled, trusting, used_up, with_child
+from .scenes import longer_list, lower_cosigned, lower_export, lower_ruled, mirrored, ruled, trusting, used_up, with_child
 
 # Sixteen values of a byte of DER and of other bytes, of records, and of TOML: small numbers, lengths and tags, signs and digits.
 BYTES = bytes.fromhex("00 01 02 03 04 12 13 1f 20 30 31 40 7f 80 81 ff")
 RECORDS = bytes.fromhex("00 01 02 03 04 05 06 07 11 12 13 14 15 20 80 ff")
+MIRRORED = bytes.fromhex("00 01 02 03 04 05 06 0b 20 21 22 23 30 7f 80 ff")
 SIGNS = b"\0\n \"#,-.02=[\\]e\x80"
 EACH = bytes(range(256))
 
@@ -24,7 +25,7 @@ def scenes():
     small = {"c": asked()["small"], "store": trusting()}
     ruled_by, held = {"c": cosigned(), "store": ruled()}, {"j": grown_log()}
     lower, asked_for = {"c": lower_cosigned(), "store": lower_ruled()}, {"r": advance_request()}
-    words = log_words()
+    words, mirroring = log_words(), {"m": mirrored(), "e": longer_list()}
     return {
         "certificate": (verify_words(), small, "c", BYTES),
         "store": (verify_words(), ruled_by, "store", SIGNS),
@@ -41,11 +42,16 @@ def scenes():
         "cert": (words["cert"], {**held, "e": b""}, "j", BYTES),
         "batches": (words["checkpoint"], {"j": batched_log()}, "j", RECORDS),
         "certs": ("certs j 1 4 0 4 e".split(), {"j": batched_log(), "e": b""}, "j", RECORDS),
+        "mirror": ("mirror-entries m 4".split(), {"m": mirrored()}, "m", MIRRORED),
+        "mirror-take": ("mirror-take m e".split(), mirroring, "m", MIRRORED),
+        "mirror-list": ("mirror-take m e".split(), mirroring, "e", BYTES),
+        "mirror-advance": ("mirror-advance s m 4".split(), {"s": advanced(), "m": mirrored()}, "m", MIRRORED),
+        "mirror-cosigner": ("mirror-advance s m 4".split(), {"s": advanced(), "m": mirrored()}, "s", BYTES),
     }
 
 
-# What is compared of what a command leaves: the journal of a cosigner, that of a log and the file of its tiles.
-LEFT = ("s", "j", "j.tiles")
+# What is compared of what a command leaves: the journals, and the files of tiles.
+LEFT = ("s", "j", "j.tiles", "m", "m.tiles")
 
 
 def answered(label, text):
@@ -136,5 +142,31 @@ def children():
     return cases("child")
 
 
+def mirrors():
+    """the same of the journal of a mirror of which entries are asked"""
+    return cases("mirror")
+
+
+def taking():
+    """the same when it is to take one more"""
+    return cases("mirror-take")
+
+
+def lists():
+    """the same of the list from which it takes it"""
+    return cases("mirror-list")
+
+
+def mirror_advances():
+    """the same of its journal when a cosigner is to advance by it"""
+    return cases("mirror-advance")
+
+
+def mirror_cosigners():
+    """the same of the journal of that cosigner"""
+    return cases("mirror-cosigner")
+
+
+OF_MIRRORS = [mirrors, taking, lists, mirror_advances, mirror_cosigners]
 OF_ONE_LEVEL = [certificates, stores, exports, entries_files, requests, journals, logs]
-KINDS = [(kind, wanted, said) for kind in (*OF_ONE_LEVEL, batches, exports_of_two, journals_of_two, children)]
+KINDS = [(kind, wanted, said) for kind in (*OF_ONE_LEVEL, batches, exports_of_two, journals_of_two, children, *OF_MIRRORS)]

@@ -6,7 +6,7 @@ Words name files by their bytes in `files`, of which those that are written are 
 import base64
 from datetime import UTC, datetime
 
-from . import auditing, certificate, cosigner, entry, journal, judging, log, merkle, proof, request, store
+from . import auditing, certificate, cosigner, entry, journal, judging, log, merkle, mirror, proof, request, store
 from .fault import Fault
 
 EMPTY_NAME, PRINTED, MOST_ITEM = b"\x30\0", range(0x21, 0x7F), 65_535
@@ -102,13 +102,18 @@ def child(words, files):
     return lines(f"child {held.state.children}")
 
 
-def opened_log(words, files):
-    """The log of the journal that is named first; beside a journal the file of its tiles is made, if it isn't there."""
-    if files[words[1]].startswith(journal.HEADER):
-        files.setdefault(f"{words[1]}.tiles", b"")
-    held = checked(words, words[1], 2, log.opened, files[words[1]])
+def opened_with_tiles(words, name, files, read):
+    """What this journal is read as; beside a journal the file of its tiles is made, if it isn't there."""
+    if files[name].startswith(journal.HEADER):
+        files.setdefault(f"{name}.tiles", b"")
+    held = checked(words, name, 2, read, files[name])
     assert held.tiled == 0, "tiles are not compared here"
     return held
+
+
+def opened_log(words, files):
+    """The log of the journal that is named first."""
+    return opened_with_tiles(words, words[1], files, log.opened)
 
 
 def checkpoint(words, files):
@@ -212,8 +217,37 @@ def certs(words, files):
     return b"".join(pem(certificate_in(held, index, start, end, files[file])) for index in range(first, last))
 
 
+def mirror_take(words, files):
+    _, name, file = words
+    items = checked(words, file, 2, entry.items, files[file])
+    held = opened_with_tiles(words, name, files, mirror.opened)
+    items = checked(words, None, 4, mirror.new_items, held, items)
+    count = mirror.fitting(items)
+    if count == 0:
+        raise Refused(9, b"", f"mtc: mirror-take: TooLarge {held.size}\n".encode())
+    files[name] = journal.appended(files[name], mirror.batch_body(items[:count]))
+    return lines(f"mirrored {held.size + count}")
+
+
+def mirror_entries(words, files):
+    held, size = opened_with_tiles(words, words[1], files, mirror.opened), int(words[2])
+    if size > held.size:
+        raise Refused(4, b"", f"mtc: mirror-entries: Beyond {held.size}\n".encode())
+    return log.batch_body(held.items[:size])[3:]
+
+
+def mirror_advance(words, files):
+    _, name, other, size = words
+    signer = checked(words, name, 2, cosigner.opened, files[name])
+    held = opened_with_tiles(words, other, files, mirror.opened)
+    asked = checked(words, None, 4, mirror.advance, held, signer, int(size))
+    files[name] = journal.appended(files[name], cosigner.advance_body(asked))
+    return lines(f"advanced {size}")
+
+
 COMMANDS = {"show": show, "verify": verify, "audit": audit, "advance": advance, "child": child, "checkpoint": checkpoint,
-            "issue": issue, "cert": cert, "switch": switch, "issue-list": issue_list, "certs": certs}
+            "issue": issue, "cert": cert, "switch": switch, "issue-list": issue_list, "certs": certs,
+            "mirror-take": mirror_take, "mirror-entries": mirror_entries, "mirror-advance": mirror_advance}
 
 
 def answer(words, files):

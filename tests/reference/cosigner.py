@@ -213,6 +213,12 @@ def advance_body(asked):
     return bytes([ADVANCE]) + asked.size.to_bytes(8, "big") + asked.root + len(hashes).to_bytes(2, "big") + hashes
 
 
+def sign_body(asked):
+    """The body of the record of a Sign."""
+    hashes, place = b"".join(asked.proof), asked.start.to_bytes(8, "big") + asked.end.to_bytes(8, "big")
+    return bytes([SIGN]) + asked.number.to_bytes(4, "big") + place + asked.node + len(hashes).to_bytes(2, "big") + hashes
+
+
 def child_body(number, lower):
     """The body of the record of a lower tree of this height."""
     typecode = next(code for code, height in LMS.items() if height == lower)
@@ -235,6 +241,23 @@ def settings(body):
         raise Fault("BadType")
     lower = heights[1] if len(heights) == 2 else None
     return Opened(log, Key(len(heights), heights[0]), NEW._replace(lower=lower))
+
+
+def folded(text, started, following):
+    """What the records of a journal make: `started` reads the first of them, and `following` each later one; else the number of
+    the first that breaks the rules."""
+    state, count = None, 0
+    for body in journal.bodies(text):
+        cursor = Cursor(body, 0, len(body))
+        try:
+            state = started(cursor) if state is None else following(state, cursor)
+            close(cursor)
+        except Fault:
+            raise Fault("BadRecord", count) from None
+        count += 1
+    if state is None:
+        raise Fault("BadRecord", 0)
+    return state
 
 
 def opened(text):

@@ -3,10 +3,9 @@ rules."""
 
 from typing import NamedTuple
 
-from . import entry, journal
-from .cosigner import close, id_at
+from . import entry
+from .cosigner import folded, id_at
 from .fault import Fault
-from .proof import Cursor
 
 LOG, ENTRY, LANDMARK, TILES, SWITCH, BATCH = 1, 2, 3, 4, 5, 6
 MOST_ACTIVE, MOST_ENTRIES, TILE = 10_000, 1 << 24, 256
@@ -78,18 +77,7 @@ def following(state, cursor):
 
 def opened(text):
     """The log of a journal."""
-    state, count = None, 0
-    for body in journal.bodies(text):
-        cursor = Cursor(body, 0, len(body))
-        try:
-            state = started(cursor) if state is None else following(state, cursor)
-            close(cursor)
-        except Fault:
-            raise Fault("BadRecord", count) from None
-        count += 1
-    if state is None:
-        raise Fault("BadRecord", 0)
-    return state
+    return folded(text, started, following)
 
 
 def short(text):

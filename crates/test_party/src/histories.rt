@@ -1,4 +1,4 @@
-//! Histories of a log and a cosigner, step by step.
+//! Histories of a log, a cosigner and a mirror, step by step.
 
 use cosigner_core::CosignerSettings;
 use hss_core::{LmsType, OtsType};
@@ -25,9 +25,21 @@ const SIGN: [u8; 55] = [
     7, 7, 7, 7, 7, 7, 7, 7, 7, 7, 7, 7, 7, 7, 7, 7, 7, 7, 7, 7, 7, 7, 0, 0,
 ];
 
+// A Batch of the null entry alone, which has no key.
+const BATCH: [u8; 9] = [0x22, 0, 1, 0, 2, 0, 0, 0, 0];
+
+// The same with a key beside it.
+const KEYED: [u8; 10] = [0x22, 0, 1, 0, 2, 0, 0, 0, 1, 7];
+
+// A Tiles at size 256.
+const TILES: [u8; 9] = [4, 0, 0, 0, 0, 0, 0, 1, 0];
+
 // What a party does.
 #[derive(Clone, Copy)]
 enum Action {
+    Batch,
+    Keyed,
+    Tiles,
     Mark,
     Advance,
     Sign,
@@ -39,6 +51,18 @@ enum Action {
 
 fn step_of(alloc: Global, party: u32, action: Action) -> Result<PartyStep, Memory> {
     Ok(match action {
+        Action::Batch => PartyStep::Begin {
+            party,
+            body: Bytes::copy_of(alloc, &BATCH)?,
+        },
+        Action::Keyed => PartyStep::Begin {
+            party,
+            body: Bytes::copy_of(alloc, &KEYED)?,
+        },
+        Action::Tiles => PartyStep::Begin {
+            party,
+            body: Bytes::copy_of(alloc, &TILES)?,
+        },
         Action::Mark => PartyStep::Begin {
             party,
             body: Bytes::copy_of(alloc, &MARK)?,
@@ -299,6 +323,59 @@ fn a_lower_tree_is_a_step(rt: HostRuntime) -> Result<(), Fail> {
     for (low, actions, wanted) in cases {
         assert!(rt;
             counts_alone(rt.alloc(), low, actions)? == wanted,
+            "{} steps",
+            actions.len()
+        );
+    }
+    Ok(())
+}
+
+// The same of a mirror alone.
+fn mirror_counts(
+    alloc: Global,
+    actions: &[(u32, Action)],
+) -> Result<Result<Counts, HistoryError>, Fail> {
+    let starts = [PartyStart::Mirror(id(alloc, "32473.1")?)];
+    match states(alloc, &starts, actions)? {
+        Err(why) => Ok(Err(why)),
+        Ok(states) => match states.as_slice() {
+            [state] => Ok(Ok(counts_of(state))),
+            _ => Err(Fail::from("nodes are missing")),
+        },
+    }
+}
+
+#[test]
+fn a_mirror_takes_its_own_records(rt: HostRuntime) -> Result<(), Fail> {
+    let cases: [(&[(u32, Action)], Result<Counts, HistoryError>); 6] = [
+        (&[(0, Action::Mark)], Err(HistoryError::NotAStep(0))),
+        (&[(0, Action::Keyed)], Err(HistoryError::NotAStep(0))),
+        (&[(0, Action::Tiles)], Err(HistoryError::NotAStep(0))),
+        (
+            &[
+                (0, Action::Batch),
+                (0, Action::MakeDurable),
+                (0, Action::Tiles),
+            ],
+            Err(HistoryError::NotAStep(2)),
+        ),
+        (
+            &[
+                (0, Action::Batch),
+                (0, Action::Stop(false)),
+                (0, Action::Batch),
+                (0, Action::MakeDurable),
+                (0, Action::Release),
+                (0, Action::Batch),
+                (0, Action::Stop(true)),
+            ],
+            Ok((2, 1, 1)),
+        ),
+        (&[(1, Action::Batch)], Err(HistoryError::NotAStep(0))),
+    ];
+    for (actions, wanted) in cases {
+        assert!(rt;
+            mirror_counts(rt.alloc(), actions)? == wanted,
             "{} steps",
             actions.len()
         );

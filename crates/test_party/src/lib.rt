@@ -1,5 +1,5 @@
-//! Cases over parties: over logs, over cosigners, over histories of both, and over
-//! mirrors.
+//! Cases over parties: over logs, over cosigners, over histories of both, and over mirrors, with
+//! what they ask of cosigners.
 #![tactic(auto)]
 
 #[cfg(test)]
@@ -26,6 +26,8 @@ mod logs;
 mod lower_trees;
 #[cfg(test)]
 mod marks;
+#[cfg(test)]
+mod mirror_steps;
 #[cfg(test)]
 mod mirrors;
 #[cfg(test)]

@@ -8,17 +8,17 @@ use entry_list::read_items;
 use frame_pool::Pool;
 use journal_core::OpenError;
 use mirror_core::{Mirror, MirrorError, MirrorOpenError, MirrorRefused, create};
-use mtc_io::{Bytes, Failed, Memory};
+use mtc_io::{Bytes, Failed, MemSink, Memory};
 use std::alloc::Global;
 use std::test::Fail;
 use tls_wire::AnchorId;
 use tree_core::Sha;
 use tree_proofs::Nodes;
 
-type MemMirror = Mirror<Sha, MemDisk, MemDisk>;
+pub(crate) type MemMirror = Mirror<Sha, MemDisk, MemDisk>;
 
 // The journal of a new mirror of log 32473.1.
-const NEW_MIRROR: [u8; 28] = [
+pub(crate) const NEW_MIRROR: [u8; 28] = [
     0x6D, 0x74, 0x63, 0x2D, 0x6A, 0x6F, 0x75, 0x72, 0x6E, 0x61, 0x6C, 0x2F, 0x76, 0x31, 0x0A, 0x00,
     0x01, 0x00, 0x00, 0x00, 0x06, 0x21, 0x04, 0x81, 0xFD, 0x59, 0x01, 0x00,
 ];
@@ -27,7 +27,7 @@ const NEW_MIRROR: [u8; 28] = [
 const BATCH_HEAD: [u8; 8] = [0x01, 0x00, 0x00, 0x00, 0x45, 0x22, 0x00, 0x08];
 
 // The eight entries as a file, each beside a key of no bytes.
-const ENTRIES: [u8; 66] = [
+pub(crate) const ENTRIES: [u8; 66] = [
     0x00, 0x00, 0x00, 0x00, 0x00, 0x01, 0x00, 0x00, 0x00, 0x00, 0x01, 0x10, 0x00, 0x00, 0x00, 0x02,
     0x20, 0x21, 0x00, 0x00, 0x00, 0x02, 0x30, 0x31, 0x00, 0x00, 0x00, 0x04, 0x40, 0x41, 0x42, 0x43,
     0x00, 0x00, 0x00, 0x08, 0x50, 0x51, 0x52, 0x53, 0x54, 0x55, 0x56, 0x57, 0x00, 0x00, 0x00, 0x10,
@@ -50,7 +50,7 @@ fn begun(alloc: Global) -> Option<MemDisk> {
 }
 
 // Opens the mirror on two disks with a pool of one frame.
-fn open(
+pub(crate) fn open(
     alloc: Global,
     disk: MemDisk,
     tiles: MemDisk,
@@ -66,12 +66,16 @@ fn open(
 }
 
 // A new mirror, where there is one.
-fn new_mirror(alloc: Global) -> Option<MemMirror> {
+pub(crate) fn new_mirror(alloc: Global) -> Option<MemMirror> {
     open(alloc, begun(alloc)?, no_bytes(alloc)).ok()
 }
 
 // What a mirror answers to the items of a file.
-fn take(alloc: Global, mirror: &mut MemMirror, list: &[u8]) -> Option<Result<u64, MirrorError>> {
+pub(crate) fn take(
+    alloc: Global,
+    mirror: &mut MemMirror,
+    list: &[u8],
+) -> Option<Result<u64, MirrorError>> {
     match read_items::<Sha>(alloc, list) {
         Ok(items) => Some(mirror.take(&items)),
         Err(_) => None,
@@ -79,7 +83,7 @@ fn take(alloc: Global, mirror: &mut MemMirror, list: &[u8]) -> Option<Result<u64
 }
 
 // The new mirror after it has taken the items of a file, where it has taken so many.
-fn mirror_of(alloc: Global, list: &[u8], count: u64) -> Option<MemMirror> {
+pub(crate) fn mirror_of(alloc: Global, list: &[u8], count: u64) -> Option<MemMirror> {
     let mut mirror = new_mirror(alloc)?;
     if take(alloc, &mut mirror, list)? == Ok(count) {
         Some(mirror)
@@ -88,7 +92,7 @@ fn mirror_of(alloc: Global, list: &[u8], count: u64) -> Option<MemMirror> {
     }
 }
 
-fn of_eight(alloc: Global) -> Option<MemMirror> {
+pub(crate) fn of_eight(alloc: Global) -> Option<MemMirror> {
     mirror_of(alloc, &ENTRIES, 8)
 }
 
@@ -98,7 +102,7 @@ fn disk_of(mirror: MemMirror) -> MemDisk {
 }
 
 // The journal with the eight entries.
-fn wanted(alloc: Global) -> Result<Bytes, Memory> {
+pub(crate) fn wanted(alloc: Global) -> Result<Bytes, Memory> {
     let mut journal = Bytes::copy_of(alloc, &NEW_MIRROR)?;
     journal.truncate(27);
     journal.append(&BATCH_HEAD)?;
@@ -193,7 +197,7 @@ fn a_mirror_has_the_nodes_of_its_entries(rt: HostRuntime) -> Result<(), Fail> {
 }
 
 // A file of so many entries of two bytes, each with its number.
-fn list_of(alloc: Global, count: u16) -> Result<Bytes, Memory> {
+pub(crate) fn list_of(alloc: Global, count: u16) -> Result<Bytes, Memory> {
     let mut list = Bytes::new(alloc);
     for number in 0..count {
         list.append(&[0x00, 0x02])?;
@@ -201,6 +205,98 @@ fn list_of(alloc: Global, count: u16) -> Result<Bytes, Memory> {
         list.append(&[0x00, 0x00])?;
     }
     Ok(list)
+}
+
+// A mirror that has taken the first three of these entries, and then all.
+fn in_two_batches(alloc: Global, list: &[u8]) -> Result<Option<MemMirror>, Memory> {
+    let Some(mut mirror) = mirror_of(alloc, list_of(alloc, 3)?.as_slice(), 3) else {
+        return Ok(None);
+    };
+    let answer = take(alloc, &mut mirror, list);
+    Ok(if answer == Some(Ok(260)) {
+        Some(mirror)
+    } else {
+        None
+    })
+}
+
+// What a mirror answers to so many items, and what a sink has taken then, seven bytes a call, which
+// fails on these calls.
+fn write(
+    alloc: Global,
+    mirror: &mut MemMirror,
+    size: u64,
+    failing: &[u64],
+) -> Result<(Result<Result<(), Failed>, MirrorError>, Bytes), Memory> {
+    let mut out = MemSink::new(alloc, 7, Vec::from_slice(alloc, failing)?);
+    let answer = mirror.write_items(size, &mut out);
+    Ok((answer, Bytes::copy_of(alloc, out.taken())?))
+}
+
+#[test]
+fn the_first_items_are_written(rt: HostRuntime) -> Result<(), Fail> {
+    let list = list_of(rt.alloc(), 260)?;
+    let mut mirror = in_two_batches(rt.alloc(), list.as_slice())?.ok_or("refused")?;
+    for (size, bytes) in [(0, 0), (2, 12), (3, 18), (5, 30), (260, 1560)] {
+        let (answer, out) = write(rt.alloc(), &mut mirror, size, &[])?;
+        assert!(rt; answer == Ok(Ok(())), "{size}");
+        assert!(rt;
+            list.as_slice().get(..bytes) == Some(out.as_slice()),
+            "{size}"
+        );
+    }
+    let (answer, out) = write(rt.alloc(), &mut mirror, 261, &[])?;
+    assert!(rt; answer == Err(MirrorError::Beyond(260)));
+    assert!(rt; out.is_empty());
+    Ok(())
+}
+
+#[test]
+fn a_sink_that_fails_has_taken_a_prefix(rt: HostRuntime) -> Result<(), Fail> {
+    let list = list_of(rt.alloc(), 260)?;
+    let mut mirror = in_two_batches(rt.alloc(), list.as_slice())?.ok_or("refused")?;
+    let (answer, out) = write(rt.alloc(), &mut mirror, 260, &[2])?;
+    assert!(rt; answer == Ok(Err(Failed)));
+    assert!(rt; list.as_slice().get(..14) == Some(out.as_slice()));
+    Ok(())
+}
+
+// Whether the mirror in a journal, where it is opened though a call of its disk fails, answers to
+// all items that a disk failed; with a prefix of them, and else with all.
+fn reports_call(
+    alloc: Global,
+    journal: &[u8],
+    list: &[u8],
+    call: u64,
+) -> Result<Option<bool>, Memory> {
+    let Ok(mut mirror) = open(alloc, disk(alloc, journal, &[call])?, no_bytes(alloc)) else {
+        return Ok(Some(false));
+    };
+    let (answer, out) = write(alloc, &mut mirror, 260, &[])?;
+    let failed = answer == Err(MirrorError::Failed);
+    let right = failed && list.starts_with(out.as_slice());
+    Ok(if right || answer == Ok(Ok(())) && out.as_slice() == list {
+        Some(failed)
+    } else {
+        None
+    })
+}
+
+// The length and the body of each of the two Batches are read, and no more.
+#[test]
+fn each_batch_is_read_once(rt: HostRuntime) -> Result<(), Fail> {
+    let list = list_of(rt.alloc(), 260)?;
+    let mirror = in_two_batches(rt.alloc(), list.as_slice())?.ok_or("refused")?;
+    let journal = disk_of(mirror);
+    let mut failed = 0_u64;
+    for call in 0..40 {
+        let answer = reports_call(rt.alloc(), journal.bytes(), list.as_slice(), call)?;
+        if answer.ok_or("wrong items")? {
+            failed = failed.saturating_add(1);
+        }
+    }
+    assert!(rt; failed == 4);
+    Ok(())
 }
 
 // A mirror of 260 entries, and what it answers when its full tiles are stored.

@@ -428,17 +428,16 @@ fn lists_to(alloc: Global, call: u64, file: &str) -> Option<bool> {
     Some(wrote(&desk, &answer, 6, file, b"mtc: entries: OutputFailed\n"))
 }
 
-// Six calls open the log, and three read each entry but the null entry: its length, its bytes with
-// the length of its key, and those of the key.
+// Six calls open the log, and one reads each entry but the null entry, with its key.
 #[test]
 fn a_device_cuts_off_a_listing(rt: HostRuntime) {
     let alloc = rt.alloc();
-    for call in 0..12 {
-        let file = if call < 9 { "nothing" } else { "first" };
+    for call in 0..8 {
+        let file = if call < 7 { "nothing" } else { "first" };
         let is_right = lists(alloc, call, 5, file, b"mtc: entries: j: Failed\n");
         assert!(rt; is_right == Some(true), "{call}: {is_right:?}");
     }
-    let is_right = lists(alloc, 12, 0, "all", b"");
+    let is_right = lists(alloc, 8, 0, "all", b"");
     assert!(rt; is_right == Some(true), "{is_right:?}");
 }
 

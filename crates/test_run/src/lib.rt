@@ -54,6 +54,10 @@ mod logs;
 #[cfg(test)]
 mod marks;
 #[cfg(test)]
+mod mirror_devices;
+#[cfg(test)]
+mod mirrors;
+#[cfg(test)]
 mod one_file;
 #[cfg(test)]
 mod quarrels;

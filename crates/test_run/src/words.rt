@@ -89,6 +89,29 @@ export s.tiles => TilesName 1
 cosign s.tiles r => TilesName 1
 issue j.tiles => WrongCount 1 2
 cert j 1 0 x s.tiles => BadNumber 4
+mirror-init m => WrongCount 1 2
+mirror-init m 01 => BadId 2
+mirror-init m.tiles 01 => BadId 2
+mirror-init m.tiles 32473.1 => TilesName 1
+mirror-take m => WrongCount 1 2
+mirror-take m -e => BadWord 2
+mirror-take m.tiles e => TilesName 1
+mirror-tile => WrongCount 0 1
+mirror-tile m.tiles => TilesName 1
+mirror-entries m x => BadNumber 2
+mirror-entries m 9223372036854775808 => BadNumber 2
+mirror-entries m.tiles 1 => TilesName 1
+mirror-advance s m => WrongCount 2 3
+mirror-advance '' m x => BadWord 1
+mirror-advance m m 01 => BadNumber 3
+mirror-advance m.tiles m.tiles 1 => TilesName 1
+mirror-advance s m.tiles 1 => TilesName 2
+mirror-advance m m 1 => BadWord 1
+mirror-cosign s m 0 => WrongCount 3 4
+mirror-cosign s -m 0 4 => BadWord 2
+mirror-cosign s m x 01 => BadNumber 3
+mirror-cosign s m 0 01 => BadNumber 4
+mirror-cosign m m 0 4 => BadWord 1
 help x => WrongCount 1 0
 help -x => BadWord 1
 version 1 => WrongCount 1 0
@@ -141,7 +164,7 @@ fn arguments_are_refused_by_their_first_fault(rt: HostRuntime) {
         assert!(rt; is_refused(rt.alloc(), line) == Some(true), "{line}");
         count = count.saturating_add(1);
     }
-    assert!(rt; count == 86);
+    assert!(rt; count == 109);
 }
 
 #[test]

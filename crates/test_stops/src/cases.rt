@@ -8,6 +8,7 @@
 //! journal NAME    the command's journal
 //! limit N         how many entries its log may have, if it is that of a log and not new
 //! lower           if it is that of a cosigner, that its key has lower trees
+//! mirror ID       if it is that of a mirror, the log's id
 //! tiled BYTES     the journal when the tiles were stored that it has at first
 //! old BYTES       its header and its records at first, without the commit byte that closes it
 //! record BYTES    the record, with its commit byte

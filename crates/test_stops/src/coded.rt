@@ -5,7 +5,10 @@ use std::alloc::Global;
 // What a name represents, in hexadecimal. The values are those of an implementation that was
 // written apart from the program. LOG and LONG are the first records of log 32473.1 with 2 active
 // landmarks, and at most 64 or 1,024 entries. ITEM is the item of ENTRY, as a Batch has it. KEY_2
-// is the public key of COSIGNER_2, and MESSAGE what this one signs where ALL asks for it.
+// is the public key of COSIGNER_2, and MESSAGE what this one signs where ALL asks for it. EIGHT are
+// the items of eight entries without keys. MIRROR is the first record of a mirror of log 32473.1,
+// and BATCH_8 that of these items; ADVANCE_5 and SIGN_4 are those of a cosigner that advances to
+// the first five and signs the first four.
 const NAMES: &str = "
 HEADER 6d74632d6a6f75726e616c2f76310a00
 LOG 010000000e010481fd59010000000200000040
@@ -41,6 +44,17 @@ KEY_2 000000020000000500000001 000102030405060708090a0b0c0d0e0f \
 a8664067560a77f7c00d2a0bed57b441c83745aef846c2f262f81941b396e652
 MESSAGE 6d74632d737562747265652f76310a00 0481fd59020481fd5901 00000000000000000000000000000400 \
 77566825cd25f263271e3fa5341db28ed2c87945ee98f731b2aa96b9e6b11cf6
+EIGHT 00000000000100000000011000000002202100000002303100000004404142430000000850515253545556570000 \
+0010606162636465666768696a6b6c6d6e6f0000
+MIRROR 0100000006210481fd5901
+BATCH_8 0100000045220008 \
+00000000000100000000011000000002202100000002303100000004404142430000000850515253545556570000 \
+0010606162636465666768696a6b6c6d6e6f0000
+ADVANCE_5 0000002b120000000000000005 \
+4e3bbb1f7b478dcfe71fb631631519a3bca12c9aefca1612bfce4c13a86264d4 0000
+SIGN_4 00000057130000000000000000000000000000000000000004 \
+d37ee418976dd95753c1c73862b9398fa2a2cf9b4ff0fdfe8b30cd95209614b7 0020 \
+bc1a0643b12e4d2d7c77918f44e0f4f79a838b6cf9ec5b5c283e1f4d88599e6b
 ";
 
 /// What follows a word in the first line that begins with it; nothing if there is no such line.

@@ -10,6 +10,8 @@ mod coded;
 #[cfg(test)]
 mod files;
 #[cfg(test)]
+mod mirrors;
+#[cfg(test)]
 mod model;
 #[cfg(test)]
 mod rebuilding;

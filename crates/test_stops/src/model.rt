@@ -113,9 +113,12 @@ fn lower_of(case: &str) -> Option<LmsType> {
     }
 }
 
-// How the party of a case begins: a log has a limit, and a cosigner has none.
+// How the party of a case begins: a log has a limit, and a cosigner has none; a mirror says so.
 fn start_of(alloc: Global, case: &str) -> Option<PartyStart> {
     let log = AnchorId::from_text(alloc, "32473.1").ok()?;
+    if !field(case, "mirror").is_empty() {
+        return Some(PartyStart::Mirror(log));
+    }
     match field(case, "limit") {
         "" => cosigner_start(alloc, log, lower_of(case)),
         limit => log_start(log, limit.parse::<u32>().ok()?),

@@ -161,15 +161,21 @@ fn place_coded(alloc: Global, files: &mut Files, name: &str, words: &str) -> Opt
     files.place(name, coded(alloc, words)?.as_slice())
 }
 
-// A file system with a request, a list that has it twice, a secret, and what a cosigner is asked to
-// hold and to sign.
+// A file system with a request, a list that has it twice, a secret, what a cosigner is asked to
+// hold and to sign, a list of entries, and a mirror that has them.
 fn with_inputs(alloc: Global) -> Option<Files> {
     let mut files = Files::new(alloc);
     files.place("r", REQUEST.as_bytes())?;
     let table = format!(in alloc; "[[request]]\n{REQUEST}").ok()?;
     let list = format!(in alloc; "{table}{table}").ok()?;
     files.place("q", list.as_bytes())?;
-    for (name, words) in [("f", "SECRET"), ("a", "TO_1024"), ("t", "ALL")] {
+    for (name, words) in [
+        ("f", "SECRET"),
+        ("a", "TO_1024"),
+        ("t", "ALL"),
+        ("e", "EIGHT"),
+        ("m", "HEADER MIRROR BATCH_8 00"),
+    ] {
         place_coded(alloc, &mut files, name, words)?;
     }
     Some(files)
@@ -188,6 +194,12 @@ fn store_tiles(alloc: Global, files: &mut Files, case: &str) -> Option<()> {
     place_journal(alloc, files, case, "tiled")?;
     let answer = files.run(field(case, "run"))?;
     if answer.status == 0 { Some(()) } else { None }
+}
+
+// The name of the file of tiles beside the journal of a case.
+fn tiles_of(alloc: Global, case: &str) -> Option<String> {
+    let journal = field(case, "journal");
+    format!(in alloc; "{journal}.tiles").ok()
 }
 
 // The files that a command finds.
@@ -227,7 +239,7 @@ fn asked(alloc: Global, case: &str, journal: &[u8], tiles: &[u8]) -> Option<Answ
     let mut files = with_inputs(alloc)?;
     files.place(field(case, "journal"), journal)?;
     if !field(case, "tiled").is_empty() {
-        files.place("j.tiles", tiles)?;
+        files.place(tiles_of(alloc, case)?.as_str(), tiles)?;
     }
     files.run(field(case, "ask"))
 }
@@ -266,7 +278,7 @@ fn open_each(
 // as it has to be, beside each of sixteen of its tiles.
 fn count(alloc: Global, case: &str, allowed: &Allowed, files: &mut Files) -> Option<u64> {
     let journals = files.crash_states(field(case, "journal"))?;
-    let tiles = files.crash_states("j.tiles")?;
+    let tiles = files.crash_states(tiles_of(alloc, case)?.as_str())?;
     let mut count = 0u64;
     for state in journals.iter() {
         let journal = state.bytes.as_slice();
@@ -299,7 +311,7 @@ fn first_stop(case: &str) -> Option<u64> {
 }
 
 // The first stop that isn't as the case says, or the run after them that doesn't stop.
-fn wrong_stop(alloc: Global, case: &str) -> Option<u64> {
+pub(crate) fn wrong_stop(alloc: Global, case: &str) -> Option<u64> {
     let (Some(allowed), Some(stops), Some(whole), Some(first)) = (
         allowed_by(alloc, case),
         numbers(alloc, field(case, "stops")),
