@@ -1,12 +1,12 @@
 #!/bin/bash
-# Makes the tables of docs/SPEED.md from what the scripts beside it wrote (bench/*/figures.txt) and bench/sizes.py computes, and draws
-# the ratios as bars, on a scale where each line is twice the one before: docs/speed.svg.
-# Usage: bench/plot.sh [--check]   with --check it writes nothing, and fails where page or picture aren't those of the figures
+# Makes the tables of docs/SPEED.md and of bench/TIMES.md from what the scripts beside it wrote (bench/*/figures.txt) and bench/sizes.py
+# computes, and draws the ratios as bars, on a scale where each line is twice the one before: docs/speed.svg.
+# Usage: bench/plot.sh [--check]   with --check it writes nothing, and fails where a page or the picture isn't that of the figures
 set -u
 cd "$(dirname "$0")/.." || exit 2
 folder=$(mktemp -d)
 trap 'rm -rf "$folder"' EXIT
-page=docs/SPEED.md
+pages=(docs/SPEED.md bench/TIMES.md)
 
 # The figures of some scripts, each line after its script's name. SCRIPT/FILE is another file than figures.txt.
 figures() {
@@ -43,7 +43,7 @@ ranges >"$folder/ranges"
 {
     echo "| Work | Of | Seconds | Memory | Script |"
     echo "|---|---|---|---|---|"
-    figures log largest cosigners trust audit monitor extensions | awk -F '|' '{ print "| " $2 " | " $3 " | " $4 " | " $5 " | `bench/" $1 ".sh` |" }' |
+    figures log largest cosigners mirrors trust audit monitor extensions | awk -F '|' '{ print "| " $2 " | " $3 " | " $4 " | " $5 " | `bench/" $1 ".sh` |" }' |
         sed -E ':again; s/([0-9])([0-9]{3})($|[^0-9])/\1,\2\3/; t again'
 } >"$folder/times"
 
@@ -93,18 +93,23 @@ shown='
         { print "| " $2 " | " $3 " | " $4 " | " $5 " | " instructions[$2, $3] " |" }'
 } >"$folder/commands"
 
-# The page with these tables between their marks.
-awk -v folder="$folder" '
-    { if (!is_old) print }
-    /^<!-- (sizes|rates|commands|ratios|times): begin -->/ {
-        while ((getline line < (folder "/" substr($2, 1, length($2) - 1))) > 0)
-            print line
-        is_old = 1
-        begins++
-        next
-    }
-    /^<!-- (sizes|rates|commands|ratios|times): end -->/ { print; is_old = 0; ends++ }
-    END { exit ends != begins || ends < 3 }' "$page" >"$folder/page" || { echo "wrong: $page has no place for its tables"; exit 1; }
+# A page with these tables between their marks.
+filled() {
+    awk -v folder="$folder" '
+        { if (!is_old) print }
+        /^<!-- (sizes|rates|commands|ratios|times): begin -->/ {
+            while ((getline line < (folder "/" substr($2, 1, length($2) - 1))) > 0)
+                print line
+            is_old = 1
+            begins++
+            next
+        }
+        /^<!-- (sizes|rates|commands|ratios|times): end -->/ { print; is_old = 0; ends++ }
+        END { exit ends != begins || !ends }' "$1"
+}
+for page in "${pages[@]}"; do
+    filled "$page" >"$folder/${page##*/}" || { echo "wrong: $page has no place for its tables"; exit 1; }
+done
 
 awk -F '|' '
     function x_of(ratio, at) {
@@ -149,10 +154,14 @@ awk -F '|' '
 
 if [ "${1-}" = --check ]; then
     status=0
-    diff -u --label "$page" --label "by bench/*/figures.txt" "$page" "$folder/page" || status=1
+    for page in "${pages[@]}"; do
+        diff -u --label "$page" --label "by bench/*/figures.txt" "$page" "$folder/${page##*/}" || status=1
+    done
     diff -q "$folder/picture" docs/speed.svg || status=1
     [ "$status" -eq 0 ] || echo "wrong: the speeds; bench/plot.sh mends them"
     exit "$status"
 fi
-cat "$folder/page" >"$page"
+for page in "${pages[@]}"; do
+    cat "$folder/${page##*/}" >"$page"
+done
 cat "$folder/picture" >docs/speed.svg

@@ -3,7 +3,7 @@
 _mtc() {
     local word=${COMP_WORDS[COMP_CWORD]} kinds=()
     if [ "$COMP_CWORD" -eq 1 ]; then
-        COMPREPLY=($(compgen -W 'member show verify init-log issue issue-list checkpoint entries entries-from consist subtree keygen init-cosigner init-cosigner2 advance child cosign export landmark landmarks light-cert light-certs switch tile tile-anew trust-landmarks cert certs audit quarrel drill root held monitor-init monitor help version' -- "$word"))
+        COMPREPLY=($(compgen -W 'member show verify init-log issue issue-list checkpoint entries entries-from consist subtree keygen init-cosigner init-cosigner2 advance child cosign export landmark landmarks light-cert light-certs switch tile tile-anew trust-landmarks cert certs mirror-init mirror-take mirror-tile mirror-entries mirror-advance mirror-cosign audit quarrel drill root held monitor-init monitor help version' -- "$word"))
         return
     fi
     case ${COMP_WORDS[1]} in
@@ -35,6 +35,12 @@ _mtc() {
         trust-landmarks) kinds=(LIST MAXACTIVE ENTRIES) ;;
         cert) kinds=(J INDEX START END SIGNATURES) ;;
         certs) kinds=(J FIRST LAST START END SIGNATURES) ;;
+        mirror-init) kinds=(M LOGID) ;;
+        mirror-take) kinds=(M ENTRIES) ;;
+        mirror-tile) kinds=(M) ;;
+        mirror-entries) kinds=(M SIZE) ;;
+        mirror-advance) kinds=(S M SIZE) ;;
+        mirror-cosign) kinds=(S M START END) ;;
         audit) kinds=(CERT STORE NOW ENTRIES EXPORT) ;;
         quarrel) kinds=(EXPORT) ;;
         drill) kinds=(NUMBER) ;;
@@ -44,7 +50,7 @@ _mtc() {
         monitor) kinds=(STATE WATCH REQUEST ENTRIES) ;;
     esac
     case ${kinds[COMP_CWORD - 2]-} in
-        J | S | FILE | CERT | STORE | REQUEST | REQUESTS | SECRET | SIGNATURES | LIST | ENTRIES | EXPORT | STATE | WATCH) COMPREPLY=($(compgen -f -- "$word")) ;;
+        J | S | M | FILE | CERT | STORE | REQUEST | REQUESTS | SECRET | SIGNATURES | LIST | ENTRIES | EXPORT | STATE | WATCH) COMPREPLY=($(compgen -f -- "$word")) ;;
         HEIGHT | TOP | LOW) COMPREPLY=($(compgen -W '5 10' -- "$word")) ;;
         WIDTH) COMPREPLY=($(compgen -W '1 2 4 8' -- "$word")) ;;
         *) COMPREPLY=() ;;
