@@ -12,6 +12,7 @@ use Rattle.disk_core.specs.declared.disk.Disk.{Ghosts}
 use Rattle.disk_core.proofs.Times.{only_read_on}
 use Rattle.journal_core.specs.Format.{records_of}
 use Rattle.journal_core.specs.Owners.{Owner}
+use Rattle.file_events.specs.Worlds.{states_at}
 use Rattle.tree_core.specs.declared.hashing.TreeHash.{Ghosts as Hashes}
 use Rattle.cosigner_core.specs.Folds.{CosignerState, cosigner_fold}
 use Rattle.cosigner_core.specs.Openings.{CosignerIsOpened, FoundCosigner, cosigner_read}
@@ -24,8 +25,9 @@ use Rattle.mtc_command.specs.Answers.{Ending, IfReply, no_memory, replied, room_
 use Rattle.mtc_command.specs.Answers.{status_of, tiles_name, IsEarly}
 use Rattle.mtc_command.specs.Endings.{AddsBy, FailedOnly, FailsAt, LeftBy}
 use Rattle.mtc_command.specs.Made.{IsOpen, Journaled, Leaves, ReadsAtMost, reads, untouched}
-use Rattle.mtc_command.specs.Served.{HasDone, first_journaled, rest_journaled}
+use Rattle.mtc_command.specs.Served.{HasDone, done_with, first_journaled, rest_journaled}
 use Rattle.mtc_command.specs.Steps.{Outcome, answers}
+use Rattle.mtc_command.specs.Stored.{MayRepresent}
 use Rattle.mtc_command.specs.Valid.{AddsValid, KeepsValid, ServesValidly}
 use Rattle.mtc_command.specs.Wanted.{Meets}
 use Rattle.mtc_command.specs.Works.{HasClosed, HasGiven, HasOpened, journaled_by}
@@ -44,6 +46,7 @@ use Rattle.mtc_mirror.specs.Works.{mirror_outcome}
 use Rattle.mtc_tiled.specs.Openings.{DevicesWereClosed}
 use Rattle.mtc_tiled.specs.Headers.{IsNoJournal}
 use Rattle.mtc_mirror_steps.specs.ReadSecond.{HasOnlyRead}
+use Rattle.mtc_mirror_steps.specs.SecondStands.{SecondStands}
 use Rattle.mtc_mirror_steps.specs.StepOutcomes.{mirror_step_outcome}
 use Rattle.mtc_mirror_steps.specs.StepWorks.{GivesOnFirst, HasServedBoth, HasTakenStep, step_says}
 use Rattle.mtc_mirror_steps.proofs.Around.{OneDevice, around_done, around_only_reads, around_reads}
@@ -235,21 +238,22 @@ module _ {R S D H : Type 0} {hashes : Hashes H} (rooms : Rooms R S D) (g : Ghost
         ap (λ (w : Outcome). first_journaled (rest_journaled w.journals)) (next_is l)
         ∙ reads_second (found_cosigner it.state l) _)))
 
-    left_second : rooms.is_modelled old → Leaves g (LeftBy ending (reads k.list))
+    -- what is left of it, however the command ends
+    left_second : (end : Ending) → rooms.is_modelled old → Leaves g (LeftBy end (reads k.list))
         (rooms.device mid second) (rooms.device kept second)
-    left_second t =
+    left_second end t =
         let devices = opened_second.devices in
-        left_opened g ending (reads k.list) (rooms.device mid second) (rooms.device kept second)
+        left_opened g end (reads k.list) (rooms.device mid second) (rooms.device kept second)
         header_disk (mirror_disk later) (devices.header.opened.device (opened.is_modelled t))
         (put_beside_back rooms g second [] nothing_said mid devices.mid both closed_second.mid kept
         header_disk (mirror_disk later) opened_second.tiles (mirror_tiles_disk later) no_memory
         devices.header.opened devices.beside closed_second.beside closed_second.journal
         (opened.is_modelled t))
-        (worked g header_disk (mirror_disk mirror) (mirror_disk later) ending (reads k.list)
+        (worked g header_disk (mirror_disk mirror) (mirror_disk later) end (reads k.list)
         crash_state
         (only_read_on g header_disk opened_second.disk (mirror_disk mirror)
         devices.header.only_reads opened_second.is.only_reads)
-        (adds_reads g ending k.list (mirror_disk mirror) (mirror_disk later) k.is_open
+        (adds_reads g end k.list (mirror_disk mirror) (mirror_disk later) k.is_open
         stepped.asks.disk))
 
   -- ---- what the command has done
@@ -297,7 +301,7 @@ module _ {R S D H : Type 0} {hashes : Hashes H} (rooms : Rooms R S D) (g : Ghost
       (λ t same. absurd (two t same))
       (λ t other. subst (λ (did : Journaled). Leaves g (LeftBy ending did)
       (rooms.device mid second) (rooms.device kept second)) (sym (second_is (knows t) t))
-      (left_second (knows t) t))
+      (left_second (knows t) ending t))
 
   valid : KeepsValid rooms g (IsCosigner h) (name ∷ second ∷ []) wanted old new
   valid t =
@@ -314,6 +318,17 @@ module _ {R S D H : Type 0} {hashes : Hashes H} (rooms : Rooms R S D) (g : Ghost
         ],
         (inr (subst (AddsValid (IsCosigner h)) (sym (second_is (knows t) t)) tt), tt),
       )
+
+  -- the mirror represents what was found in it
+  stands : rooms.is_modelled old
+      → SecondStands rooms g old new (done_with (name ∷ second ∷ []) wanted.journals)
+  stands t =
+      let k = knows t in
+      let after = (closed.others second (λ same. two t (sym same))).disk in
+      inr (subst (λ (did : Journaled). MayRepresent did (states_at g (rooms.device new second)))
+      (sym (second_is k t))
+      (subst (λ (x : Option D). MayRepresent (reads k.list) (states_at g x)) (sym after)
+      (left_second k (replied (said Done [])) t).crash_states.now_is))
 
   pub stepped_serves : HasServedBoth h rooms g name second
       (mirror_step_outcome h name second says (rooms.file old)) old new ending
@@ -335,4 +350,5 @@ module _ {R S D H : Type 0} {hashes : Hashes H} (rooms : Rooms R S D) (g : Ghost
             (known_cosigner rooms g h name old mid d it opened is t) not);
         spares_second = around_spares rooms g all one name second old mid kept new d d' opened
             inner closed apart reads_first;
+        second = stands;
       })

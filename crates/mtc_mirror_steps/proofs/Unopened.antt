@@ -20,12 +20,13 @@ use Rattle.mtc_room.specs.Places.{place_of}
 use Rattle.mtc_room.specs.declared.room.Room.{Ghosts as Rooms}
 use Rattle.mtc_command.specs.Answers.{Ending, IfReply, no_memory, refused, status_of, tiles_name}
 use Rattle.mtc_command.specs.Endings.{FailedOnly, IsNamed}
+use Rattle.mtc_command.specs.Made.{untouched}
 use Rattle.mtc_command.specs.Served.{ClosesAll, HasServed}
 use Rattle.mtc_command.specs.Steps.{Outcome, answers, with_file}
 use Rattle.mtc_command.specs.Works.{HasClosed, HasOpened}
 use Rattle.mtc_command.specs.declared.answer.Stopped.TheVariants.{BadForm}
 use Rattle.mtc_command.proofs.Beside.{ModelsAll, longer_other}
-use Rattle.mtc_command.proofs.Made.{OnlyNow}
+use Rattle.mtc_command.proofs.Made.{OnlyNow, kept_of, left_opened, still}
 use Rattle.mtc_command.proofs.Served.{failed_so, reply_so}
 use Rattle.mtc_command.proofs.Valid.{gives_same, kept_valid}
 use Rattle.mtc_command.proofs.Works.{each_some, of_bytes, opened_at}
@@ -42,8 +43,8 @@ use Rattle.mtc_mirror_steps.specs.ReadSecond.{HasOnlyRead}
 use Rattle.mtc_mirror_steps.specs.StepOutcomes.{mirror_step_outcome}
 use Rattle.mtc_mirror_steps.specs.StepWorks.{HasServedBoth, ServesAround}
 use Rattle.mtc_mirror_steps.proofs.Around.{OneDevice, around_only_reads, around_reads}
-use Rattle.mtc_mirror_steps.proofs.Around.{around_spares, closed_read, none_read, rose_first}
-use Rattle.mtc_mirror_steps.proofs.Around.{rose_inner}
+use Rattle.mtc_mirror_steps.proofs.Around.{around_spares, closed_read, none_read, put_back}
+use Rattle.mtc_mirror_steps.proofs.Around.{rose_first, rose_inner}
 use Rattle.mtc_mirror_steps.proofs.Nests.{mirror_early, no_cosigner_wanted}
 use Rattle.mtc_mirror_steps.proofs.SecondRead.{devices_not_read, devices_read}
 use Rattle.mtc_mirror_steps.proofs.Stopped.{IsEarlyReply, absent_early, closed_done}
@@ -77,6 +78,8 @@ module _ {R S D : Type 0} (rooms : Rooms R S D) (g : Ghosts D) (only_now : OnlyN
             only_read = second_read.only_read;
             spares_first = spared_kept rooms name old new read;
             spares_second = second_read.spares;
+            second = λ t. inl (still g (rooms.device old name) (rooms.device new name) untouched
+                only_now (read.others name tt).disk).crash_states.now_is;
           }
 
   -- memory was refused before anything was opened
@@ -125,6 +128,10 @@ module _ {R S D : Type 0} (rooms : Rooms R S D) (g : Ghosts D) (only_now : OnlyN
       spares_first = spares;
       spares_second = around_spares rooms g all one name second old mid kept new d d' opened inner
           closed apart (λ t same. only);
+      second = λ t. inl (left_opened g no_memory untouched (rooms.device old name)
+          (rooms.device new name) d d' (opened.device t)
+          (put_back rooms g all one name second old mid kept new d d' opened inner closed apart t)
+          (kept_of g d d' untouched only)).crash_states.now_is;
     }
 
   module _ (says : FoundCosigner → FoundMirror → Outcome)

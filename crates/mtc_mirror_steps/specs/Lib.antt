@@ -1,3 +1,4 @@
 pub mod ReadSecond
+pub mod SecondStands
 pub mod StepOutcomes
 pub mod StepWorks

@@ -17,7 +17,7 @@ use Rattle.mtc_room.specs.declared.room.Room.{Ghosts as Rooms}
 use Rattle.mtc_command.specs.Answers.{Ending, IfReply, status_of, tiles_name}
 use Rattle.mtc_command.specs.Endings.{AddsBy, FailsAt}
 use Rattle.mtc_command.specs.Made.{IsOpen}
-use Rattle.mtc_command.specs.Served.{HasDone, OnlyReadsBeside}
+use Rattle.mtc_command.specs.Served.{HasDone, OnlyReadsBeside, done_with}
 use Rattle.mtc_command.specs.Steps.{Outcome}
 use Rattle.mtc_command.specs.Valid.{KeepsValid, WorksValidly}
 use Rattle.mtc_command.specs.Wanted.{Meets}
@@ -26,6 +26,7 @@ use Rattle.mtc_cosigner.specs.Works.{IsCosigner, found_cosigner}
 use Rattle.mtc_mirror.specs.Works.{found_mirror}
 use Rattle.mtc_tiled.specs.Headers.{SparesTiles}
 use Rattle.mtc_mirror_steps.specs.ReadSecond.{OnlyReadsJournal}
+use Rattle.mtc_mirror_steps.specs.SecondStands.{SecondStands}
 use Rattle.mtc_mirror_steps.specs.StepOutcomes.{mirror_step_outcome}
 
 -- ---- the devices
@@ -68,7 +69,8 @@ module _ {H D : Type 0} {hashes : Hashes H} {g : Ghosts D} where
 
 -- What a command has done that had to give this outcome of the journal of a cosigner and of that of
 -- a mirror: of all files, and what it leaves of each journal; of the mirror and its tiles nothing
--- new, and no tiles beside what is no journal.
+-- new, and no tiles beside what is no journal. If something new is left of the cosigner, the mirror
+-- represents the records that were found in it.
 pub record HasServedBoth {R S D : Type 0} (h : HashFunction) (rooms : Rooms R S D) (g : Ghosts D)
     (cosigner mirror : Text) (wanted : Outcome) (old new : R) (ending : Ending) : Type 0 where
   pub done : HasDone rooms g ⊥ (cosigner ∷ mirror ∷ tiles_name mirror ∷ [])
@@ -78,6 +80,8 @@ pub record HasServedBoth {R S D : Type 0} (h : HashFunction) (rooms : Rooms R S 
   pub only_read : OnlyReadsBeside rooms g old new (tiles_name mirror)
   pub spares_first : SparesTiles rooms old new cosigner
   pub spares_second : SparesTiles rooms old new mirror
+  pub second : rooms.is_modelled old
+      → SecondStands rooms g old new (done_with (cosigner ∷ mirror ∷ []) wanted.journals)
 
 -- The device of the cosigner's journal was opened, and became that one while the mirror was opened
 -- and closed: with whatever was before that and comes after it, the command has done this.

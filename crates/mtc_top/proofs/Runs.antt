@@ -28,6 +28,7 @@ use Rattle.mtc_command.specs.Works.{ModelsNew}
 use Rattle.mtc_command.proofs.Served.{each_so, each_is}
 use Rattle.mtc_authority.specs.StoredTiles.{MakesTilesWhole}
 use Rattle.mtc_tiled.specs.Headers.{SparesTiles}
+use Rattle.mtc_mirror_steps.specs.SecondStands.{SecondStands}
 use Rattle.mtc_io.proofs.Streams.{prefix_whole}
 use Rattle.mtc_lines.specs.Outputs.{BrokeItsText, Streams}
 use Rattle.mtc_top.specs.Concluded.{Wrote, Lost, Concludes, Prints, PrintsPrefix}
@@ -351,9 +352,11 @@ module _ {R S D O E : Type 0} (h : List ℕ → List ℕ) (rooms : Rooms R S D) 
       → LeavesEach rooms disks old new (done_with asked.only_reads []) HasKept)
       → OfEach (λ name did. SparesTiles rooms old new name)
       (done_with asked.journals cited.journals)
+      → (rooms.is_modelled old
+      → SecondStands rooms disks old new (done_with asked.journals cited.journals))
       → StoresBeside asked.goes asked.Valid rooms disks old new asked.journals asked.besides
       cited → Out ending status ⊎ Cut ending status → Run status
-  planned_run ending status done valid only_read spares stores gone =
+  planned_run ending status done valid only_read spares second stores gone =
       let did = done_as ending done in
       record {
         ending = ending;
@@ -366,6 +369,8 @@ module _ {R S D O E : Type 0} (h : List ℕ → List ℕ) (rooms : Rooms R S D) 
         only_read = only_read;
         spares = subst (λ (o : Outcome). OfEach (λ name did. SparesTiles rooms old new name)
             (done_with asked.journals o.journals)) same spares;
+        second = subst (λ (o : Outcome). rooms.is_modelled old
+            → SecondStands rooms disks old new (done_with asked.journals o.journals)) same second;
         valid = subst (λ (o : Outcome).
             KeepsValid rooms disks asked.Valid asked.journals o old new) same valid;
         stores = subst (λ (o : Outcome). StoresBeside asked.goes asked.Valid rooms disks old new

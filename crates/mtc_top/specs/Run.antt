@@ -18,6 +18,7 @@ use Rattle.mtc_command.specs.Wanted.{Meets}
 use Rattle.mtc_command.specs.Works.{ModelsNew}
 use Rattle.mtc_authority.specs.StoredTiles.{MakesTilesWhole}
 use Rattle.mtc_tiled.specs.Headers.{SparesTiles}
+use Rattle.mtc_mirror_steps.specs.SecondStands.{SecondStands}
 use Rattle.mtc_top.specs.Concluded.{BreaksAt, Concludes}
 use Rattle.mtc_top.specs.Facts.{Facts, facts}
 
@@ -81,6 +82,9 @@ module _ {R S D O E : Type 0} (h : HashFunction) (rooms : Rooms R S D) (disks : 
     -- If a journal isn't there, or its file doesn't begin with the header of a journal, the file of
     -- its tiles stays as it was, and isn't made.
     pub spares : OfEach (λ name did. SparesTiles rooms old new name) journals
+    -- Of a command on two journals: nothing new is left of the first one, or each crash state of
+    -- the second one represents the records that were found in it, where it was opened.
+    pub second : rooms.is_modelled old → SecondStands rooms disks old new journals
     -- A new record makes a log, a cosigner or a mirror with those before it; or nothing new is left
     -- of the journal, and it reads as before.
     pub valid : KeepsValid rooms disks asked.Valid asked.journals (asked.outcome (rooms.file old))

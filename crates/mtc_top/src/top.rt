@@ -12,6 +12,7 @@ ghost use Rattle.mtc_command.specs.Stored.{StoresBeside};
 ghost use Rattle.mtc_command.specs.Valid.{KeepsValid};
 ghost use Rattle.mtc_command.specs.Works.{ModelsNew};
 ghost use Rattle.mtc_tiled.specs.Headers.{SparesTiles};
+ghost use Rattle.mtc_mirror_steps.specs.SecondStands.{SecondStands};
 ghost use Rattle.mtc_plans.specs.Cited.{command_outcome};
 ghost use Rattle.mtc_plans.specs.Words.{streams};
 ghost use Rattle.mtc_top.specs.Cited.{spoken_outcome};
@@ -86,6 +87,10 @@ fn perform_reading<'a, H: TreeHash, R: Room>(
         OfEach (λ name did. SparesTiles R.Room room.old room.new name)
         (done_with asked.journals
         (command_outcome H.hash (command_value command.entry) (R.file room.old)).journals) }
+    ensures second { let asked = facts_of H.hash (command_value command.entry) in
+        R.is_modelled room.old → SecondStands R.Room R.Dsk.Disk room.old room.new
+        (done_with asked.journals
+        (command_outcome H.hash (command_value command.entry) (R.file room.old)).journals) }
     ensures stores { let asked = facts_of H.hash (command_value command.entry) in
         StoresBeside asked.goes asked.Valid R.Room R.Dsk.Disk room.old room.new
         asked.journals asked.besides
@@ -143,6 +148,10 @@ fn perform<'a, H: TreeHash, R: Room>(
         (done_with (facts_of H.hash (command_value command.entry)).only_reads []) HasKept }
     ensures spares { let asked = facts_of H.hash (command_value command.entry) in
         OfEach (λ name did. SparesTiles R.Room room.old room.new name)
+        (done_with asked.journals
+        (command_outcome H.hash (command_value command.entry) (R.file room.old)).journals) }
+    ensures second { let asked = facts_of H.hash (command_value command.entry) in
+        R.is_modelled room.old → SecondStands R.Room R.Dsk.Disk room.old room.new
         (done_with asked.journals
         (command_outcome H.hash (command_value command.entry) (R.file room.old)).journals) }
     ensures stores { let asked = facts_of H.hash (command_value command.entry) in
@@ -223,6 +232,10 @@ fn carry_out<'a, H: TreeHash, R: Room, O: Sink>(
         OfEach (λ name did. SparesTiles R.Room room.old room.new name)
         (done_with asked.journals
         (command_outcome H.hash (command_value command.entry) (R.file room.old)).journals) }
+    ensures second { let asked = facts_of H.hash (command_value command.entry) in
+        R.is_modelled room.old → SecondStands R.Room R.Dsk.Disk room.old room.new
+        (done_with asked.journals
+        (command_outcome H.hash (command_value command.entry) (R.file room.old)).journals) }
     ensures stores { let asked = facts_of H.hash (command_value command.entry) in
         StoresBeside asked.goes asked.Valid R.Room R.Dsk.Disk room.old room.new
         asked.journals asked.besides
@@ -272,6 +285,10 @@ fn answer<'a, H: TreeHash, R: Room, O: Sink>(
     ensures spares { let said = command_of (map string_bytes words.now) in
         let asked = facts H.hash said in
         OfEach (λ name did. SparesTiles R.Room room.old room.new name)
+        (done_with asked.journals (spoken_outcome H.hash said (R.file room.old)).journals) }
+    ensures second { let said = command_of (map string_bytes words.now) in
+        let asked = facts H.hash said in
+        R.is_modelled room.old → SecondStands R.Room R.Dsk.Disk room.old room.new
         (done_with asked.journals (spoken_outcome H.hash said (R.file room.old)).journals) }
     ensures stores { let said = command_of (map string_bytes words.now) in
         let asked = facts H.hash said in

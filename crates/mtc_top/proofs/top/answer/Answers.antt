@@ -7,6 +7,7 @@ use Rattle.mtc_command.specs.Valid.{KeepsValid}
 use Rattle.mtc_command.specs.Works.{ModelsNew}
 use Rattle.mtc_authority.specs.StoredTiles.{MakesTilesWhole}
 use Rattle.mtc_tiled.specs.Headers.{SparesTiles}
+use Rattle.mtc_mirror_steps.specs.SecondStands.{SecondStands}
 use Rattle.mtc_plans.specs.Cited.{command_outcome}
 use Rattle.mtc_top.specs.Cited.{spoken_outcome}
 use Rattle.mtc_top.specs.Ended.{HasCarriedOut}
@@ -54,6 +55,14 @@ returns-in-Ok-clause-spares g c =
     (done_with (facts g.H.TreeHash.hash said).journals
     (spoken_outcome g.H.TreeHash.hash said (g.R.Room.file c.args.room.now)).journals))
     (sym c.in-Ok.ensures.exact) c.carry_out.ensures.spares
+
+pub returns-in-Ok-clause-second : goal.returns-in-Ok-clause-second
+returns-in-Ok-clause-second g c =
+    subst (λ (said : Result CommandValue WordError). g.R.Room.is_modelled c.args.room.now
+    → SecondStands g.R.Room g.R.Dsk.Disk c.args.room.now c.carry_out.new.room
+    (done_with (facts g.H.TreeHash.hash said).journals
+    (spoken_outcome g.H.TreeHash.hash said (g.R.Room.file c.args.room.now)).journals))
+    (sym c.in-Ok.ensures.exact) c.carry_out.ensures.second
 
 pub returns-in-Ok-clause-stores : goal.returns-in-Ok-clause-stores
 returns-in-Ok-clause-stores g c =

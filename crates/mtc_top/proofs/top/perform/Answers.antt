@@ -154,6 +154,10 @@ returns-in-MirrorAdvance-clause-spares g c = rw c.in-MirrorAdvance.is (
   (c.mirror_advance.ensures.spares_second, tt),
 )
 
+pub returns-in-MirrorAdvance-clause-second : goal.returns-in-MirrorAdvance-clause-second
+returns-in-MirrorAdvance-clause-second g c =
+    rw c.in-MirrorAdvance.is c.mirror_advance.ensures.second
+
 pub returns-in-MirrorAdvance-clause-stores : goal.returns-in-MirrorAdvance-clause-stores
 returns-in-MirrorAdvance-clause-stores g c =
     let s = c.in-MirrorAdvance.cosigner.now in
@@ -188,6 +192,9 @@ returns-in-MirrorCosign-clause-spares g c = rw c.in-MirrorCosign.is (
   c.mirror_cosign.ensures.spares_first,
   (c.mirror_cosign.ensures.spares_second, tt),
 )
+
+pub returns-in-MirrorCosign-clause-second : goal.returns-in-MirrorCosign-clause-second
+returns-in-MirrorCosign-clause-second g c = rw c.in-MirrorCosign.is c.mirror_cosign.ensures.second
 
 pub returns-in-MirrorCosign-clause-stores : goal.returns-in-MirrorCosign-clause-stores
 returns-in-MirrorCosign-clause-stores g c =

@@ -7,7 +7,7 @@ returns-in-Kept g c =
     let did = c.answer.ensures in
     let done = c.in-Kept.ensures.done in
     planned_run g.H.TreeHash.hash g.R.Room g.R.Dsk.Disk g.O.Sink g.E.Sink _ _ _ _ _ _ _ _ _
-    done.0 did.valid did.only_read did.spares did.stores (inl (rw (
+    done.0 did.valid did.only_read did.spares did.second did.stores (inl (rw (
       ← c.command_word.ensures,
       ← c.cause.ensures,
       ← done.1,
@@ -23,4 +23,4 @@ returns-in-Written g c =
       ← c.cause-in-Written.ensures,
     ) c.conclude_written.ensures) in
     planned_run g.H.TreeHash.hash g.R.Room g.R.Dsk.Disk g.O.Sink g.E.Sink _ _ _ _ _ _ _ _ _
-    so.1.0 did.valid did.only_read did.spares did.stores so.1.1
+    so.1.0 did.valid did.only_read did.spares did.second did.stores so.1.1
