@@ -28,7 +28,7 @@ use Rattle.mirror_cosigner.proofs.Refusing.{advance_few, signs_own}
 use Rattle.mtc_command.specs.Made.{appended, reads}
 use Rattle.mtc_plans.specs.Heard.{FindsBoth, MirrorAdvancesSo, MirrorCosignsSo}
 use Rattle.mtc_plans.proofs.HeardOfBoth.{mirror_advanced_so, mirror_cosigned_so}
-use Rattle.mtc_laws.specs.MirrorLaws.{HasAskedStep, StepsAreAsked}
+use Rattle.mtc_laws.specs.MirrorLaws.{AdvanceTo, AskedRecord, HasAskedStep, SignOf, StepsAreAsked}
 use Rattle.mtc_laws.specs.PrintLaws.{OfEachRun, OfHeard}
 use Rattle.mtc_laws.proofs.HeardRuns.{file_bytes}
 use Rattle.mtc_laws.proofs.Printed.{MirrorsAreSound, first_did, heard_so}
@@ -94,25 +94,26 @@ module _ {R S D O E : Type 0} (h : HashFunction) (rooms : Rooms R S D) (disks : 
 
   module _ (name mirror : List ℕ) (old : R) (run : Run R O E) (is_modelled : rooms.is_modelled old)
       (both : FindsBoth h (rooms.file old) name mirror) where
-    signer_stands : Represents both.held both.found.records
+    pub signer_stands : Represents both.held both.found.records
         × (cosigner_of h both.found.records ≡ Ok both.found.state)
     signer_stands = found_stands (cosigner_fold h) both.held both.found
         (file_bytes disks (rooms.file old name) (rooms.device old name) both.held bytes
         (contents.0 old name is_modelled) both.there) both.is_cosigner
 
-    mirror_stands : Represents both.mirror_held both.mirrored.records
+    pub mirror_stands : Represents both.mirror_held both.mirrored.records
         × (mirror_of h both.mirrored.records ≡ Ok both.mirrored.state)
     mirror_stands = found_stands (mirror_fold h) both.mirror_held both.mirrored
         (file_bytes disks (rooms.file old mirror) (rooms.device old mirror) both.mirror_held bytes
         (contents.0 old mirror is_modelled) both.mirror_there) both.is_mirror
 
-    asks : (body : List ℕ)
+    asks : (IsAsked : AskedRecord) (body : List ℕ)
         → DidWith h rooms disks outs errs old run name (appended both.found.records body)
+        → IsAsked both.mirrored.state both.found.state (end_offset both.found.records) body
         → IsAskedAdvance h both.mirrored.state both.found.state (end_offset both.found.records) body
         ⊎ IsAskedSign h both.mirrored.state both.found.state (end_offset both.found.records) body
         → IsOk (cosigner_of h (both.found.records ++ body ∷ []))
-        → HasAskedStep h p name mirror old run
-    asks body did asked valid =
+        → HasAskedStep h p name mirror IsAsked old run
+    asks IsAsked body did is asked valid =
         let step : IsAskedStep h both.mirrored.records both.found.records body = record {
           state = both.mirrored.state;
           is_mirror = mirror_stands.1;
@@ -125,16 +126,20 @@ module _ {R S D O E : Type 0} (h : HashFunction) (rooms : Rooms R S D) (disks : 
           there = both.mirror_there;
           shown = both.mirrored.records;
           stands = mirror_stands.0;
+          state = both.mirrored.state;
+          is_mirror = mirror_stands.1;
           list = both.found.records;
+          signs = both.found.state;
+          is_cosigner = signer_stands.1;
           body = body;
           did = did;
-          asked = step;
+          asked = is;
           agrees = (agreement_grows h sized sound).asked both.mirrored.records both.found.records
               body step valid;
         }
 
-  advance_asked : (name mirror : List ℕ) (size : ℕ) → OfEachRun h p
-      (OfHeard h p (mirror_advance name mirror size) (HasAskedStep h p name mirror))
+  advance_asked : (name mirror : List ℕ) (size : ℕ) → OfEachRun h p (OfHeard h p
+      (mirror_advance name mirror size) (HasAskedStep h p name mirror (AdvanceTo h p size)))
   advance_asked name mirror size old run is_modelled is_run spoken heard =
       let command = mirror_advance name mirror size in
       let s = heard_so h rooms disks outs errs old run command spoken is_modelled is_run heard
@@ -144,16 +149,18 @@ module _ {R S D O E : Type 0} (h : HashFunction) (rooms : Rooms R S D) (disks : 
       let list = both.found.records in
       let r = advance_by_mirror h both.mirrored.state both.found.state.held size in
       let body = advance_record r.size r.root r.proof in
-      asks name mirror old run is_modelled both body
+      let asked : IsAskedAdvance h both.mirrored.state both.found.state (end_offset list) body
+      = record { size = size; allowed = s.fits; is = refl } in
+      asks name mirror old run is_modelled both (AdvanceTo h p size) body
       (first_did h rooms disks outs errs old run command spoken name (mirror ∷ [])
       (appended list body) (reads both.mirrored.records ∷ []) refl s.did)
-      (inl (record { size = size; allowed = s.fits; is = refl }))
+      (asked, refl) (inl asked)
       (advance_made h sized sound both.mirrored.records list both.mirrored.state both.found.state
       (mirror_stands name mirror old run is_modelled both).1
       (signer_stands name mirror old run is_modelled both).1 size s.fits)
 
-  sign_asked : (name mirror : List ℕ) (start end : ℕ) → OfEachRun h p
-      (OfHeard h p (mirror_cosign name mirror start end) (HasAskedStep h p name mirror))
+  sign_asked : (name mirror : List ℕ) (start end : ℕ) → OfEachRun h p (OfHeard h p
+      (mirror_cosign name mirror start end) (HasAskedStep h p name mirror (SignOf h p start end)))
   sign_asked name mirror start end old run is_modelled is_run spoken heard =
       let command = mirror_cosign name mirror start end in
       let s = heard_so h rooms disks outs errs old run command spoken is_modelled is_run heard
@@ -164,10 +171,12 @@ module _ {R S D O E : Type 0} (h : HashFunction) (rooms : Rooms R S D) (disks : 
       let signer = both.found.state in
       let r = subtree_by_mirror h both.mirrored.state signer.held start end in
       let body = sign_record signer.key.next r.start r.end r.hash r.proof in
-      asks name mirror old run is_modelled both body
+      let asked : IsAskedSign h both.mirrored.state signer (end_offset list) body
+      = record { start = start; stop = end; allowed = s.fits; is = refl } in
+      asks name mirror old run is_modelled both (SignOf h p start end) body
       (first_did h rooms disks outs errs old run command spoken name (mirror ∷ [])
       (appended list body) (reads both.mirrored.records ∷ []) refl s.did)
-      (inr (record { start = start; stop = end; allowed = s.fits; is = refl }))
+      (asked, (refl, refl)) (inr asked)
       (sign_made h sized sound both.mirrored.records list both.mirrored.state signer
       (mirror_stands name mirror old run is_modelled both).1
       (signer_stands name mirror old run is_modelled both).1 start end s.fits)

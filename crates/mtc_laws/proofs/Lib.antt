@@ -26,6 +26,7 @@ pub mod TilesStay
 mod AcceptedLists
 mod Acceptances
 mod Bundled
+mod ByMirror
 mod CertTexts
 mod Certified
 mod Counted
@@ -35,6 +36,9 @@ mod Issuable
 mod Listed
 mod PemTexts
 pub mod KilledRuns
+mod MirrorRuns
+pub mod MirrorTiles
+pub mod MirrorsAgree
 mod Monitored
 mod OneFile
 mod PathHashes
@@ -43,6 +47,7 @@ mod RecordBytes
 mod Recordings
 mod Requested
 mod SoundLogs
+mod Taken
 mod Unrefused
 mod ValidStores
 mod Verified

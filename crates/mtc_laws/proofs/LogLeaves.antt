@@ -48,7 +48,7 @@ use Rattle.mtc_laws.proofs.Aliases.{IsRun, crash_states_in}
 use Rattle.mtc_laws.proofs.Aliases.{ModelsFiles}
 
 -- a run that isn't about the journal leaves nothing new of it
-still_kept : (Valid : List Text → Type 0) (broken heard : Bool) (did : Journaled)
+pub still_kept : (Valid : List Text → Type 0) (broken heard : Bool) (did : Journaled)
     (before now : CrashStates) → did ≡ untouched
     → Happens Valid (event_with broken heard did) before now → NoNew before now
 still_kept Valid true heard did before now is happens =

@@ -11,6 +11,7 @@ use Rattle.mtc_words.specs.Commands.{CommandValue}
 use Rattle.cosigner_core.specs.Openings.{cosigner_read}
 use Rattle.cosigner_core.specs.declared.settings.CosignerSettings.{CosignerSettings}
 use Rattle.mirror_core.specs.Openings.{mirror_read}
+use Rattle.mtc_command.specs.Endings.{IsNamed}
 use Rattle.mtc_command.specs.Steps.{Files}
 use Rattle.mtc_command.proofs.Made.{OnlyNow, ReadsCrashState}
 use Rattle.command_plans.specs.Found.{AnyIsRefused, IsRefused}
@@ -28,6 +29,7 @@ use Rattle.mtc_laws.proofs.HeardRuns.{file_bytes}
 use Rattle.mtc_laws.proofs.Misread.{about_input, of_tiles, stands_of}
 use Rattle.mtc_laws.proofs.Recovered.{modelled_then, read_again}
 use Rattle.mtc_top.specs.Executions.{program}
+use Rattle.mtc_top.specs.Facts.{facts_of}
 
 read_never : {F E : Type 0} (r : Result F E) (found : F) (why : E) → r ≡ Ok found → r ≡ Err why → ⊥
 read_never r found why one two = cc
@@ -69,6 +71,14 @@ both_refused h files name journal command file reason (inr sign) any =
     subst (λ (c : CommandValue).
     AnyIsRefused (party_kinds h) files (plan_of h c).journals file reason) sign.1.1 any
 
+-- such a command reads no file
+no_inputs : (h : HashFunction) (name journal : List ℕ) (command : CommandValue) (file : List ℕ)
+    → StepsThrough name journal command → IsNamed (facts_of h command).inputs file → ⊥
+no_inputs h name journal command file (inl advance) named =
+    subst (λ (c : CommandValue). IsNamed (facts_of h c).inputs file) advance.1 named
+no_inputs h name journal command file (inr sign) named =
+    subst (λ (c : CommandValue). IsNamed (facts_of h c).inputs file) sign.1.1 named
+
 module _ {R S D O E : Type 0} (h : HashFunction) (rooms : Rooms R S D) (disks : Disks D)
     (outs : Sinks O) (errs : Sinks E) (crash_state : ReadsCrashState disks) (only : OnlyNow disks)
     (contents : ModelsFiles rooms disks)
@@ -77,13 +87,15 @@ module _ {R S D O E : Type 0} (h : HashFunction) (rooms : Rooms R S D) (disks : 
   p = program h rooms disks outs errs
 
   pub tiles_misread : TilesAreMisread h p errs
-  tiles_misread name start first old new events begun execution settings public is journal log
-      begins before others begun' execution' command run steps is_run spoken two =
+  tiles_misread name start first old new events begun execution settings public is journal begins
+      before others found execution' command run steps is_run spoken two =
+      let log = found.0 in
+      let begun' = found.1 in
       let files = rooms.file new in
       let is_modelled = modelled_then h rooms disks outs errs crash_state only contents bytes name
       start first old new events begun execution in
-      about_input h rooms disks outs errs crash_state only contents bytes journal new command run
-      is_modelled is_run spoken two (λ file reason any.
+      let about = about_input h rooms disks outs errs crash_state only contents bytes journal new
+      command run is_modelled is_run spoken two (λ file reason any.
       elim (both_refused h files name journal command file reason steps any) [
         | inl signer ↦ absurd (cosigner_never h files name file reason settings public (λ c there.
             let party = read_again h rooms disks outs errs crash_state only contents bytes name
@@ -104,4 +116,10 @@ module _ {R S D O E : Type 0} (h : HashFunction) (rooms : Rooms R S D) (disks : 
               mirrored
           | inr none ↦ absurd none
         ]
-      ])
+      ]) in (
+        about,
+        elim about.input [
+          | inl named ↦ absurd (no_inputs h name journal command about.file steps named)
+          | inr lacks ↦ lacks
+        ],
+      )

@@ -81,7 +81,7 @@ log_found h (Cosigner settings' public) settings first list is begins of = absur
 log_found h (Mirror log) settings first list is begins of = absurd cc
 
 -- a party that began as a mirror has one
-mirror_found : (h : HashFunction) (start : PartyStart) (log first : List ℕ)
+pub mirror_found : (h : HashFunction) (start : PartyStart) (log first : List ℕ)
     (list : List (List ℕ)) → start ≡ Mirror log → StartsWith start first
     → AreOfParty h start first list → (t : MirrorState) × (mirror_of h list ≡ Ok t)
 mirror_found h (Log settings) log first list is begins of = absurd cc

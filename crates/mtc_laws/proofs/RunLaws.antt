@@ -248,6 +248,7 @@ module _ {R S D O E : Type 0} (h : List ℕ → List ℕ) (rooms : Rooms R S D) 
                 (sym (whole_none h (command_of words) cut.streams)) tt;
             only_read = is_run.only_read;
             spares = is_run.spares;
+            second = is_run.second;
             stores = is_run.stores;
             valid = is_run.valid;
           }
@@ -264,6 +265,7 @@ module _ {R S D O E : Type 0} (h : List ℕ → List ℕ) (rooms : Rooms R S D) 
           whole = is_run.whole;
           only_read = is_run.only_read;
           spares = is_run.spares;
+          second = is_run.second;
           stores = is_run.stores;
           valid = is_run.valid;
         }

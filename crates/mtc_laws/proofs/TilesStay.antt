@@ -140,14 +140,14 @@ lacks_none h leaves others tiled size t one two holds =
     ∙ ap (λ (n : ℕ). first_bad_tile h others n t) two ∙ none_lacks h others size t holds
 
 -- the bytes of a file, or none, are one of its crash states
-held_crash_state : {D : Type 0} (g : Disks D) (file : Option Text) (x : Option D)
+pub held_crash_state : {D : Type 0} (g : Disks D) (file : Option Text) (x : Option D)
     → ReadsCrashState g
     → ModelsFile g.contents file x → states_at g x (held_in file)
 held_crash_state g file None crash_state models = ap held_in models
 held_crash_state g None (Some d) crash_state models = absurd (grind (rules, models))
 held_crash_state g (Some b) (Some d) crash_state models = crash_state d b models.0
 
-no_none : (x : ℕ × ℕ) → None ≡ Some x → ⊥
+pub no_none : (x : ℕ × ℕ) → None ≡ Some x → ⊥
 no_none x is = absurd cc
 
 module _ {R S D O E : Type 0} (h : HashFunction) (rooms : Rooms R S D) (disks : Disks D)
@@ -222,7 +222,7 @@ module _ {R S D O E : Type 0} (h : HashFunction) (rooms : Rooms R S D) (disks : 
   event_so name old (writes room) is =
       record { is_modelled = is.is_modelled; stays = λ n own. is.stays n (inl own) }
 
-  journal_execution : (name : Text) (events : List (FileEvent R O E)) (old new : R)
+  pub journal_execution : (name : Text) (events : List (FileEvent R O E)) (old new : R)
       → IsFileExecution (program h rooms disks outs errs)
       (tiled_journal h (program h rooms disks outs errs) name) old events new
       → IsOwnExecution h rooms disks outs errs name old events new

@@ -18,3 +18,5 @@ pub mod ListLaws
 pub mod PemLaws
 pub mod Promise
 pub mod MirrorLaws
+pub mod MirrorAgreement
+pub mod TakenLaws

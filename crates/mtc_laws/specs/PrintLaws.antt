@@ -101,11 +101,11 @@ module _ (h : HashFunction) (p : Program) where
 
   -- What goes out of a command that opens a cosigner's journal, or is given a secret file as such.
   -- `cosign` and `mirror-cosign` print a signature, and have added its record. `advance` prints the
-  -- size in the request that it read, and `mirror-advance` its own size; `child` the number of the
-  -- next lower tree, and has added its record; `export` the ids, the public key and the records
-  -- after the first of those that it read; and those that are given a secret file print its public
-  -- key. Each journal that another command opens or makes is a log's or a mirror's, and of what
-  -- goes out of it nothing is said here.
+  -- size in the request that it read, and `mirror-advance` the size in its arguments; `child` the
+  -- number of the next lower tree, and has added its record; `export` the ids, the public key and
+  -- the records after the first of those that it read; and those that are given a secret file print
+  -- its public key. Each journal that another command opens or makes is a log's or a mirror's, and
+  -- of what goes out of it nothing is said here.
   abbrev pub Says : CommandValue → p.R → Run p.R p.O p.E → Type 0
   Says (cosign name file) old run = HasCosigned name old run
   Says (mirror_cosign name mirror start end) old run = HasCosigned name old run

@@ -9,9 +9,11 @@ use Rattle.mtc_laws.specs.ExportLaws.{ExportsHoldTheSteps}
 use Rattle.mtc_laws.specs.PrintLaws.{OnlyCosignSigns, SignaturesStand}
 use Rattle.mtc_laws.specs.QuarrelLaws.{TwoSignaturesCollide}
 
--- What a program promises of all histories. A history is an execution of a journal: runs by any
--- arguments, wherever they fail, stops of the machine between them and in the middle of one, and
--- kills. A run of `verify`, `audit` or `quarrel` that ends with status 5, 6 or 8 is excepted.
+-- What a program promises of all executions of a journal: runs by any arguments, wherever they
+-- fail, stops of the machine between them and in the middle of one, and kills. A run that ends with
+-- status 5 or 8 before its first byte counts as one that broke off there; one of `verify`, `audit`
+-- or `quarrel` that ends with status 5, 6 or 8 is excepted. All is of files whose contents are
+-- known.
 pub record KeepsItsPromise (h : HashFunction) (p : Program) : Type 0 where
   -- Nothing is lost. Whatever a crash leaves of a journal represents records, and what a run before
   -- found in it, or made of it, is a prefix of these.
@@ -30,10 +32,11 @@ pub record KeepsItsPromise (h : HashFunction) (p : Program) : Type 0 where
   pub signatures_stand : SignaturesStand h p
   -- And a later export has the step of each record.
   pub exports_hold_the_steps : ExportsHoldTheSteps h p
-  -- What is issued is accepted by each store that backs the certificate, while it is valid.
+  -- What `issue` issued is accepted by each store that backs its certificate, while it is valid.
   pub issued_is_accepted : IssuedCertificatesAreAccepted h p
-  -- What was accepted can be audited: by a landmark, or by a signature that was recorded, the entry
-  -- stands in the wanted list, or two different strings with one hash are printed.
+  -- Where a certificate was accepted by a landmark, or by a signature that was recorded, `audit`
+  -- over the wanted list prints that the entry stands in it, or two different strings with one
+  -- hash.
   pub audits_decide : AuditsDecide h p
   -- A cosigner whose records sign one interval with two hashes convicts itself by its export.
   pub two_signatures_collide : TwoSignaturesCollide h p

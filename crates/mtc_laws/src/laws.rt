@@ -133,7 +133,7 @@ pub fn law_misread_files_are_inputs<H: TreeHash, R: Room, O: Sink, E: Sink>()
 /// stops. Whatever a crash leaves of both files, the one has all tiles of the last size in the
 /// other. So no run of a command on this journal alone reports a bad tile: with status 2 it is
 /// about a file that it reads. Of `mirror-advance` and `mirror-cosign`, which work on two journals,
-/// the second clause says nothing.
+/// [`law_misread_tiles_are_of_mirrors`](crate::mirrors::law_misread_tiles_are_of_mirrors) says it.
 pub fn law_tiles_survive_stops<H: TreeHash, R: Room, O: Sink, E: Sink>()
     ensures survive { TilesSurviveStops H.hash (program H.hash R.Room R.Dsk.Disk O.Sink E.Sink) }
     ensures none { NoTileIsBad H.hash (program H.hash R.Room R.Dsk.Disk O.Sink E.Sink) E.Sink }
@@ -189,11 +189,11 @@ pub fn law_two_signatures_collide<H: TreeHash, R: Room, O: Sink, E: Sink>()
 /// the whole with status 0; with 6, the one other status, it is a prefix. Arguments that are no
 /// command do no work, and nothing goes out. Of the commands that open a cosigner's journal, or are
 /// given a secret file as such, only `cosign` and `mirror-cosign` print a signature by it.
-/// `advance` prints the size in its request, `mirror-advance` its own size, and `child` the number
-/// of the lower tree whose record it adds. `export` prints the ids, the public key and the records
-/// after the first of those that it read, and `init-cosigner`, `init-cosigner2` and `keygen` the
-/// public key of the secret file. Each journal that another command opens or makes is a log's or a
-/// mirror's. Nothing is said of what goes out of those.
+/// `advance` prints the size in its request, `mirror-advance` the size in its arguments, and
+/// `child` the number of the lower tree whose record it adds. `export` prints the ids, the public
+/// key and the records after the first of those that it read, and `init-cosigner`, `init-cosigner2`
+/// and `keygen` the public key of the secret file. Each journal that another command opens or makes
+/// is a log's or a mirror's. Nothing is said of what goes out of those.
 pub fn law_printed_texts_are_of_their_records<H: TreeHash, R: Room, O: Sink, E: Sink>()
     ensures indices { IndicesArePrinted H.hash (program H.hash R.Room R.Dsk.Disk O.Sink E.Sink) }
     ensures switches { SwitchesArePrinted H.hash (program H.hash R.Room R.Dsk.Disk O.Sink E.Sink) }
@@ -222,18 +222,17 @@ pub fn law_printed_texts_stand<H: TreeHash, R: Room, O: Sink, E: Sink>()
 /// byte that goes out of `cosign` or `mirror-cosign` is of the signature by the key whose number
 /// its record has, over what the request file asks for, or over the mirror's items. Of the commands
 /// that open a cosigner's journal, or are given a secret file as such, no other prints a signature
-/// by it. Each crash state of a journal represents
-/// records, and what a run before found in it, or made of it, is a prefix of these: so the record
-/// of each signature of which a byte may have gone out is there. No journal is refused: each crash
-/// state is read as its log, its cosigner or its mirror. A later export has the step of each of its
-/// records. If a store accepts a certificate by a signature whose record a run of an execution
-/// held, or by a landmark, a run of `audit` over the wanted list, and over an export that was
-/// printed after it, prints that the entry stands, or two different strings with one hash. Or it
-/// ends with status 5, 6 or 8. If runs of an execution held the records of two signatures of one
-/// interval with different hashes, a run of `quarrel` over a later export prints two different
-/// strings with one hash, or ends so. What `cert` or `light-cert` prints for an index that `issue`
-/// printed before, each run of `verify` accepts, by each store that backs the certificate, at each
-/// time of the request's period, or it ends so.
+/// by it. Each crash state of a journal represents records, and what a run before found in it, or
+/// made of it, is a prefix of these: so the record of each signature of which a byte may have gone
+/// out is there. No journal is refused: each crash state is read as its log, its cosigner or its
+/// mirror. A later export has the step of each of its records. If a store accepts a certificate by
+/// a signature whose record a run of an execution held, or by a landmark, a run of `audit` over the
+/// wanted list, and over an export that was printed after it, prints that the entry stands, or two
+/// different strings with one hash. Or it ends with status 5, 6 or 8. If runs of an execution held
+/// the records of two signatures of one interval with different hashes, a run of `quarrel` over a
+/// later export prints two different strings with one hash, or ends so. What `cert` or `light-cert`
+/// prints for an index that `issue` printed before, each run of `verify` accepts, by each store
+/// that backs the certificate, at each time of the request's period, or it ends so.
 pub fn law_the_whole_promise<H: TreeHash, R: Room, O: Sink, E: Sink>()
     ensures { KeepsItsPromise H.hash (program H.hash R.Room R.Dsk.Disk O.Sink E.Sink) }
 {
