@@ -47,6 +47,7 @@ for count in 1000 10000 100000 1000000; do
     "$program" mirror-init m 32473.1 >/dev/null
     "$program" init-cosigner s 32473.2 32473.1 5 4 secret >/dev/null
     row 0 '`mirror-take` until nothing is new' "$root/tools/take_entries.sh" m entries
+    [ "$(cat found)" = "$count" ] || { echo "wrong: take_entries printed $(cat found) of $count" >&2; exit 1; }
     records=$(python3 - <<'END'
 text, place, count = open("m", "rb").read(), 16, 0
 while text[place]:

@@ -13,16 +13,19 @@ from checks import ledger
 from checks.sources import CLAUSE, FUNCTION, ROOT, after_braces, after_head, crates
 
 # The sources in which they stand.
-SOURCES = (*sorted((ROOT / "crates" / "mtc_top" / "src").rglob("*.rt")), ROOT / "crates" / "mtc_laws" / "src" / "laws.rt")
+SOURCES = (*sorted((ROOT / "crates" / "mtc_top" / "src").rglob("*.rt")),
+           *(ROOT / "crates" / "mtc_laws" / "src" / name for name in ("laws.rt", "mirrors.rt")))
 # Each statement: what its table is headed by, the functions whose contracts it is, and its page of definitions. First the
-# record that `run` ensures with the laws of each run, then the laws of executions, and those of what is printed.
+# record that `run` ensures with the laws of each run, then the laws of executions, those of what is printed, and those of mirrors.
 RUNS = ("The statement names", r"run|law_runs_\w+", ("mtc_top.specs.Run", "mtc_laws.specs.RunLaws"))
 LAWS = "mtc_laws.specs.{}Laws"
 PRINTED = tuple(map(LAWS.format, ("Export", "Audit", "Print", "Status")))
-PRINTS = ("The laws of what is printed name", r"law_(?:exports|audits|printed|misread)_\w+", PRINTED)
+PRINTS = ("The laws of what is printed name", r"law_(?:exports|audits|printed|misread_files)_\w+", PRINTED)
 LINKED = ("mtc_top.specs.Executions", *map(LAWS.format, ("Execution", "Room", "Tile")))
 EXECUTIONS = ("The laws of executions name", r"law_(?:executions|entries|journals|no|recovered|released|tiles)_\w+", LINKED)
-STATEMENTS = (RUNS, EXECUTIONS, PRINTS)
+MIRRORS = ("The laws of mirrors name", r"law_(?:cosigners|mirrors|misread_tiles|taken)_\w+",
+           ("mtc_laws.specs.MirrorAgreement", *map(LAWS.format, ("Mirror", "Taken"))))
+STATEMENTS = (RUNS, EXECUTIONS, PRINTS, MIRRORS)
 
 # The contracts are generic: what they say of a file system, a device, a stream and a hash function is what these traits ensure.
 TRAITS = ("mtc_room/src/room.rt", "disk_core/src/disk.rt", "mtc_io/src/source.rt", "mtc_io/src/sink.rt", "tree_core/src/hashing.rt")
@@ -329,6 +332,7 @@ PARTS = (
     ("The promise as a whole", "The list of the promise, and where it ends.", promise_rows),
     ("The laws of executions", "What they name themselves.", lambda: first_rows(EXECUTIONS)),
     ("The laws of what is printed", "What they name themselves.", lambda: first_rows(PRINTS)),
+    ("The laws of mirrors", "What they name themselves.", lambda: first_rows(MIRRORS)),
     ("Words of the kit", "The definitions of the kit that count.", kit_rows),
     ("Edits by crate", "Wrong programs that are refused. The middle columns say how many of a crate's edits the search for proofs refused, "
      "and how many a proof by hand that fits no longer.", edit_rows),
@@ -388,7 +392,7 @@ def summary():
     """The first table of BELIEFS: how much each statement rests on."""
     rows = ["| Statement | Definitions that it names | Lines | With all below them | Lines |", "|---|---|---|---|---|"]
     named = (("the contract of `run`, and the laws of each run", RUNS), ("the laws of executions", EXECUTIONS),
-             ("the laws of what is printed", PRINTS))
+             ("the laws of what is printed", PRINTS), ("the laws of mirrors", MIRRORS))
     rows += [summary_row(name, named_first(statement), own_of(statement)) for name, statement in named]
     rows.insert(3, summary_row("the promise as a whole", named_by(WHOLE), promise()[0]))
     all_own = reached(all_named())[0]

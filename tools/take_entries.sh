@@ -15,7 +15,7 @@ while [ $status -eq 0 ]; do
     why=$("$mtc" mirror-take "$1" "$2" 2>&1 >/dev/null) || status=$?
 done
 # That there is nothing new is how it ends; every other refusal is for a person to read.
-if [ "$why" != "mtc: mirror-take: NothingNew" ]; then
+if [ $status -ne 4 ] || [ "${why##*$'\n'}" != "mtc: mirror-take: NothingNew" ]; then
     echo "$why" >&2
     exit $status
 fi

@@ -91,6 +91,15 @@ def fitting(items):
     return len(items)
 
 
+def taken(held, items):
+    """The items of a list that the next record adds; else why none is taken."""
+    new = new_items(held, items)
+    count = fitting(new)
+    if count == 0:
+        raise Refusal("TooLarge", held.size)
+    return new[:count]
+
+
 def own_list(held, state):
     """The list of the items' entries; where a cosigner with this state doesn't hold its first entries, that is refused."""
     log, mine = merkle.List([text for text, _ in held.items]), min(state.size, held.size)

@@ -36,6 +36,8 @@ def check_take_entries(scene):
         yield from differ(f"records, {what}", batches(scene) - before, 1 if what == "before" else RECORDS - 1)
     for again in ("", " again"):
         yield from differ(f"a list{again}", take(scene), (0, f"{SIZE}\n".encode(), ""))
+    line = '[ "$1" != mirror-take ] || echo "a line before the refusal" >&2'
+    yield from differ("a line before", take(scene, **stand_in(scene, line)), (0, f"{SIZE}\n".encode(), ""))
     yield from differ("records", batches(scene), RECORDS)
     yield from differ("what it has", scene.mtc("mirror-entries", "m", SIZE) == entries, True)
     scene.mtc("entries", "j", 2, into="few")
