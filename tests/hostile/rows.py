@@ -123,7 +123,7 @@ def rows():
     yield Row("show:the-output-fails", ["show", "c"], files, takes=1, call=7)
     yield Row("verify:the-store-fails", verify_words(), files, failing="store")
     yield Row("mirror-take:the-list-fails", "mirror-take m e".split(), {"m": mirrored(), "e": b""}, failing="e", reported=("m",))
-    yield Row("mirror-entries:the-output-fails", "mirror-entries m 4".split(), {"m": mirrored()}, takes=100, call=3)
+    yield Row("mirror-entries:the-output-fails", "mirror-entries m 4".split(), {"m": mirrored()}, takes=1, call=300)
 
 
 def answer(row):
