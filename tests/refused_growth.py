@@ -35,7 +35,7 @@ from reference.fault import Fault
 
 PROGRAM, TABLES = ROOT / "crates/mtc_main/out/mtc_main", ROOT / "crates/test_tables/out/test_tables"
 # The commands that make a journal.
-MAKING = ("init-log", "init-cosigner", "init-cosigner2")
+MAKING = ("init-log", "init-cosigner", "init-cosigner2", "mirror-init")
 OWN, CUT = "of the tables", "with a line that is cut"
 # A sample has one allocation in so many.
 ONE_IN = 4
