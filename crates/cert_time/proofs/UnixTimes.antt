@@ -1,22 +1,40 @@
 -- Times and the dates and times of day that they name.
 use Rattle.std.proofs.Common.{◌≡◌, ℕ, ◌+◌, ◌*◌, ◌/◌, ◌%◌, ◌<◌, ◌≤◌, true, refl, sym, ap, ◌∙◌, arith}
-use Rattle.std.proofs.Common.{rules, ℤ, pos, negsuc, ◌+ℤ◌, ◌*ℤ◌, ◌≤ℤ◌, unsigned_abs, Some}
+use Rattle.std.proofs.Common.{rules, ℤ, pos, negsuc, ◌+ℤ◌, ◌-ℤ◌, ◌*ℤ◌, ◌≤ℤ◌, unsigned_abs, Some}
+use Rattle.std.proofs.Common.{FitsSigned, w64, Bool, false, cond, ◌&&◌, nat_le, None}
+use Rattle.std.specs.Prelude.{int_div}
 use Rattle.std.proofs.lemmas.Bool.Decides.{nat_tests}
 use Rattle.std.proofs.lemmas.Int.{by_lt_z}
 use Rattle.jiff_core.specs.declared.civil.date.Date.{Date as JiffDate}
 use Rattle.jiff_core.specs.declared.civil.datetime.DateTime.{DateTime}
-use Rattle.jiff_core.specs.Calendar.{days_in_month, days_from_civil}
+use Rattle.jiff_core.specs.Calendar.{days_in_month, days_from_civil, day_count, days_of_years}
+use Rattle.jiff_core.specs.Calendar.{days_of_months, IsDate}
+use Rattle.jiff_core.specs.Date.{IsYmd}
+use Rattle.jiff_core.specs.Time.{IsHms, IsTime}
 use Rattle.jiff_core.specs.DateTime.{civil_nanos, civil_seconds}
 use Rattle.jiff_core.proofs.SignedLemmas.{signed_arith}
 use Rattle.jiff_core.proofs.CalendarLemmas.{days_from_civil-day_count, day_count-lt_year}
 use Rattle.jiff_core.proofs.CalendarLemmas.{day_count-day_of_year, days_of_months-zero}
 use Rattle.jiff_core.proofs.DateLemmas.{civil, epoch_day_injective, epoch_day_range}
-use Rattle.jiff_core.proofs.DateTimeLemmas.{civil_nanos-civil_seconds}
+use Rattle.jiff_core.proofs.DateTimeLemmas.{civil_nanos-civil_seconds, civil_nanos_range}
 use Rattle.cert_time.specs.declared.civil.CivilTime.{CivilTime}
 use Rattle.cert_time.specs.Calendar.{exists, unix_time, unix_time_from, IsUnixTime, date_after}
 use Rattle.cert_time.specs.Calendar.{civil_of}
 use Rattle.cert_time.specs.Calendar.{at_second}
 use Rattle.cert_time.proofs.Dates.{date_after-is, year_to_9999, days_from_civil-1950}
+
+-- the library's 1970-01-01T00:00:00
+pub epoch_nanos : (dt : DateTime) → IsYmd (pos 1970) (pos 1) (pos 1) dt.date
+    → IsHms (pos 0) (pos 0) (pos 0) (pos 0) dt.time → civil_nanos dt ≡ pos 0
+unfolding civil_nanos days_from_civil day_count days_of_years days_of_months
+epoch_nanos dt date time =
+    let month : dt.date.month ≡ 1 = omega (arith, signed_arith, date.1) in
+    let day : dt.date.day ≡ 1 = omega (arith, signed_arith, date.2) in
+    let hour : dt.time.hour ≡ 0 = omega (arith, signed_arith, time.0) in
+    let minute : dt.time.minute ≡ 0 = omega (arith, signed_arith, time.1) in
+    let second : dt.time.second ≡ 0 = omega (arith, signed_arith, time.2) in
+    let subsec : dt.time.subsec_nanosecond ≡ 0 = omega (arith, signed_arith, time.3) in
+    rw (date.0, month, day, hour, minute, second, subsec) refl
 
 -- what `exists` tests
 pub record Exists (c : CivilTime) : Type 0 where
@@ -191,6 +209,54 @@ unix_time_from-parts first_year dt c h from to =
     let is = exists-from c (HasParts-exists dt c h to) in
     let same = HasParts-unix_time dt c h in
     grind (arith, nat_tests)
+
+-- what the library wants of a date and a time of day, and what is there where it has none
+pub IsDate-exists : (c : CivilTime) (year month day hour minute second : ℤ) → Exists c
+    → year ≡ pos c.year → month ≡ pos c.month → day ≡ pos c.day → hour ≡ pos c.hour
+    → minute ≡ pos c.minute → second ≡ pos c.second
+    → IsDate year month day × IsTime hour minute second (pos 0)
+IsDate-exists c year month day hour minute second h y m d k n s =
+    rw (y, m, d, k, n, s) (
+      (
+        (omega (arith, signed_arith), omega (arith, signed_arith, h.year_end)),
+        (omega (arith, signed_arith, h.month), omega (arith, signed_arith, h.month_end)),
+        (omega (arith, signed_arith, h.day), omega (arith, signed_arith, h.day_end)),
+      ),
+      (
+        (omega (arith, signed_arith), omega (arith, signed_arith, h.hour)),
+        (omega (arith, signed_arith), omega (arith, signed_arith, h.minute)),
+        (omega (arith, signed_arith), omega (arith, signed_arith, h.second)),
+        (omega (arith, signed_arith), omega (arith, signed_arith)),
+      ),
+    )
+
+none_of : (from there : Bool) (z : ℤ) → (there ≡ true → ⊥) → cond (from && there) (Some z) None
+    ≡ None
+none_of true true z h = absurd (h refl)
+none_of true false z h = refl
+none_of false there z h = refl
+
+pub unix_time_from-none : (first_year : ℕ) (c : CivilTime) → (Exists c → ⊥)
+    → unix_time_from first_year c ≡ None
+unix_time_from-none first_year c h =
+    none_of (nat_le first_year c.year) (exists c) (unix_time c) (λ e. h (exists-to c e))
+
+-- whole seconds from the library's 1970-01-01T00:00:00 to a date and a time of day
+pub civil_seconds-since : (dt epoch : DateTime) (n : ℤ) → civil_nanos epoch ≡ pos 0
+    → dt.time.subsec_nanosecond ≡ 0 → n ≡ civil_nanos dt -ℤ civil_nanos epoch
+    → int_div n (pos 1_000_000_000) ≡ civil_seconds dt
+civil_seconds-since dt epoch n zero whole e =
+    omega (arith, signed_arith, zero, whole, e, civil_nanos-civil_seconds dt)
+
+pub civil_seconds-bound : (dt : DateTime) → FitsSigned w64 (civil_seconds dt)
+civil_seconds-bound dt =
+    omega (
+      arith,
+      signed_arith,
+      civil_nanos-civil_seconds dt,
+      civil_nanos_range dt,
+      dt.time.subsec_in,
+    )
 
 -- the library's date and time of a time
 pub civil_seconds-nanos : (z : ℤ) (dt : DateTime) → civil_nanos dt ≡ z *ℤ pos 1_000_000_000

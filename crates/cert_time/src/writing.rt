@@ -10,8 +10,10 @@ use crate::calendar::civil_at;
 use crate::civil::CivilTime;
 use crate::time::{put_time, time_length};
 use crate::validity::Validity;
-use der_core::tags::SEQUENCE;
 use mtc_io::{Bytes, Memory};
+
+// The tag of a SEQUENCE (X.690, section 8.9).
+const SEQUENCE: u8 = 0x30;
 
 /// Appends a validity to the bytes: a SEQUENCE of two times (RFC 5280, section 4.1.2.5), each of
 /// them a UTCTime up to 2049 and a GeneralizedTime from 2050 on. If memory is refused, the bytes
