@@ -20,18 +20,18 @@ pub struct Item<'a> {
 }
 
 // What is left of a file from an offset on.
-fn rest_from(file: &[u8], place: u32) -> &[u8]
+fn rest_from(file: &[u8], place: usize) -> &[u8]
     ensures { result.now ≡ drop place file.now }
 {
-    if (place as usize) > file.len() {
+    if place > file.len() {
         return &[];
     }
-    let (_, rest) = file.split_at(place as usize);
+    let (_, rest) = file.split_at(place);
     rest
 }
 
 // The entry of the item that begins at this offset of a file; no bytes where none fits there.
-fn entry_from(file: &[u8], place: u32) -> &[u8]
+fn entry_from(file: &[u8], place: usize) -> &[u8]
     ensures { result.now ≡ entry_from file.now place }
 {
     match Cursor::new(rest_from(file, place)).vec16() {
@@ -41,7 +41,7 @@ fn entry_from(file: &[u8], place: u32) -> &[u8]
 }
 
 // The key after that entry; no bytes where none fits there.
-fn key_from(file: &[u8], place: u32) -> &[u8]
+fn key_from(file: &[u8], place: usize) -> &[u8]
     ensures { result.now ≡ key_from file.now place }
 {
     let mut cursor = Cursor::new(rest_from(file, place));
@@ -58,7 +58,7 @@ fn key_from(file: &[u8], place: u32) -> &[u8]
 #[derive(Drop)]
 pub struct Entries<'a> {
     file: &'a [u8],
-    offsets: &'a [u32],
+    offsets: &'a [usize],
 }
 
 impl<'a> Model for Entries<'a> {
@@ -99,12 +99,12 @@ impl<'a> EntryList for Entries<'a> {
 }
 
 /// The items of a file, which lie in its bytes: beside these only the offset of each is stored, in
-/// four bytes. Each key is the one of its entry, where `H` is the function that hashes keys.
+/// eight bytes. Each key is the one of its entry, where `H` is the function that hashes keys.
 /// Contracts see the entries and the keys as two lists.
 #[derive(Drop)]
 pub struct Items<'a, H: TreeHash> {
     file: &'a [u8],
-    offsets: Vec<u32>,
+    offsets: Vec<usize>,
     function: PhantomData<H>,
 }
 
@@ -120,7 +120,7 @@ impl<'a, H: TreeHash> Model for Items<'a, H> {
 }
 
 impl<'a, H: TreeHash> Items<'a, H> {
-    pub(crate) fn of_offsets(file: &'a [u8], offsets: Vec<u32>) -> Items<'a, H>
+    pub(crate) fn of_offsets(file: &'a [u8], offsets: Vec<usize>) -> Items<'a, H>
         requires { AreItems H.hash (lists_at file.now offsets.items) }
         ensures { result ≡ lists_at file.now offsets.items }
     {

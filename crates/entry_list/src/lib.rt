@@ -4,7 +4,7 @@
 //! presentation language of TLS (RFC 8446, section 3.4). An entry of type 1 holds the hash of a
 //! key, and stands beside that key; any other entry stands beside a key of no bytes. What is read
 //! borrows from the bytes of the file, so a large file isn't copied: only the offset of each item
-//! is stored, in four bytes.
+//! is stored, in eight bytes.
 #![tactic(auto)]
 
 mod error;

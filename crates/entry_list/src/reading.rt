@@ -40,25 +40,21 @@ fn read_item<'a, H: TreeHash>(cursor: &mut Cursor<'a>, number: u64) -> Result<It
     Ok(Item { entry, spki })
 }
 
-// Adds the offset of an item. One that four bytes don't hold is refused.
-fn push(offsets: &mut Vec<u32>, place: usize) -> Result<(), NoMemory>
+// Adds the offset of an item.
+fn push(offsets: &mut Vec<usize>, place: usize) -> Result<(), NoMemory>
     ensures { OnOk result (offsets.new.items ≡ offsets.old.items ++ place ∷ []) }
 {
-    let Ok(place) = u32::try_from(place) else {
-        return Err(NoMemory);
-    };
     offsets.push(place)?;
     Ok(())
 }
 
 /// Reads a file of entries: for each item the entry and the key, each after its length of two
 /// bytes, up to the end. The time grows with the bytes of the file, and what is read borrows from
-/// them: four bytes of memory are taken for each item, and up to twelve while their list grows.
+/// them: eight bytes of memory are taken for each item, and up to 24 while their list grows.
 ///
 /// Errors, of which the first that is met is answered: `Short` with the offset of the entry or key
 /// that doesn't fit, `BadItem` with the number of an item whose key isn't the one of its entry.
-/// Entries that don't read are taken as they are. `Memory` may come instead of any answer, and
-/// always comes where an item begins after the first 2^32 bytes.
+/// Entries that don't read are taken as they are. `Memory` may come instead of any answer.
 pub fn read_items<'a, H: TreeHash>(
     alloc: Global,
     bytes: &'a [u8],

@@ -6,7 +6,8 @@ use crate::records::export_of;
 use cert_fields::parse;
 use cosigner_core::read_export;
 use entry_list::read_items;
-use hss_core::{Key, LmsType, OtsType, SECRET_LEN, Secret, SigBuf};
+use hss_core::{LmsType, OtsType, SECRET_LEN, Secret, SigBuf};
+use hss_keys::HssKey;
 use mtc_io::{Bytes, Memory};
 use mtc_proof::{InputBuf, read_proof, signature_input};
 use policy_core::{Cosigners, Indices, Known, Rule, Rules, Store, Subtrees, Trusted, ValidStore};
@@ -72,9 +73,9 @@ fn id_of(alloc: Global, number: u8) -> Option<AnchorId> {
 }
 
 // The key of the cosigner with this number.
-fn key_of(alloc: Global, number: u8) -> Option<Key> {
+fn key_of(alloc: Global, number: u8) -> Option<HssKey> {
     let secret = Secret::from_slice(&[number; SECRET_LEN])?;
-    Key::make(alloc, LmsType::H5, OtsType::W4, &secret, 0).ok()
+    HssKey::make(alloc, LmsType::H5, None, OtsType::W4, &secret, 0, 0).ok()
 }
 
 // What the cosigner 32473.2 signs of the first two entries.

@@ -4,7 +4,8 @@ use crate::judgements::{
     CERTIFICATE, FIRST, TRUSTED, anchor, answer, piece, store_of, trusted_in, valid,
 };
 use crate::texts::joined_bytes;
-use hss_core::{Key, LmsType, OtsType, SECRET_LEN, Secret, SigBuf};
+use hss_core::{LmsType, OtsType, SECRET_LEN, Secret, SigBuf};
+use hss_keys::HssKey;
 use mtc_io::Memory;
 use mtc_proof::{InputBuf, signature_input};
 use policy_core::{By, Cosigners, Indices, Known, Rule, Rules, ValidStore};
@@ -13,13 +14,13 @@ use std::test::Fail;
 use tls_wire::AnchorId;
 
 // The key of the cosigner with this number, of a secret that is made of it.
-fn key_of(alloc: Global, number: u8) -> Result<Key, Memory> {
+fn key_of(alloc: Global, number: u8) -> Result<HssKey, Memory> {
     let secret = Secret::from_slice(&[number; SECRET_LEN]).ok_or(Memory)?;
-    Key::make(alloc, LmsType::H5, OtsType::W4, &secret, 0)
+    HssKey::make(alloc, LmsType::H5, None, OtsType::W4, &secret, 0, 0)
 }
 
 // The keys of the cosigners with the numbers 2 to 4.
-fn keys_of(alloc: Global) -> Result<Vec<Key>, Fail> {
+fn keys_of(alloc: Global) -> Result<Vec<HssKey>, Fail> {
     let mut keys = Vec::new(alloc);
     for number in 2..5u8 {
         keys.push(key_of(alloc, number)?)?;
@@ -33,7 +34,7 @@ fn index_of(number: u8) -> usize {
 }
 
 // Signs a text by the key of this number.
-fn sign(keys: &mut Vec<Key>, number: u8, text: &[u8], out: &mut SigBuf) {
+fn sign(keys: &mut Vec<HssKey>, number: u8, text: &[u8], out: &mut SigBuf) {
     if let Some(key) = keys.get_mut(index_of(number)) {
         if key.left() > 0 {
             key.sign(text, out);
@@ -144,7 +145,7 @@ fn encoded(alloc: Global, id: &[u8], signature: &[u8]) -> Result<Vec<u8>, Fail> 
 // Signs with this mark.
 fn sign_with(
     alloc: Global,
-    keys: &mut Vec<Key>,
+    keys: &mut Vec<HssKey>,
     mark: &Mark,
     out: &mut SigBuf,
 ) -> Result<(), Fail> {
@@ -155,7 +156,7 @@ fn sign_with(
 }
 
 // The signature of this letter.
-fn signature_of(alloc: Global, keys: &mut Vec<Key>, letter: u8) -> Result<Vec<u8>, Fail> {
+fn signature_of(alloc: Global, keys: &mut Vec<HssKey>, letter: u8) -> Result<Vec<u8>, Fail> {
     let mark = mark_of(letter);
     let mut whole = SigBuf::new();
     sign_with(alloc, keys, &mark, &mut whole)?;
@@ -164,7 +165,7 @@ fn signature_of(alloc: Global, keys: &mut Vec<Key>, letter: u8) -> Result<Vec<u8
 }
 
 // The signatures of these letters.
-fn signatures_of(alloc: Global, keys: &mut Vec<Key>, letters: &str) -> Result<Vec<u8>, Fail> {
+fn signatures_of(alloc: Global, keys: &mut Vec<HssKey>, letters: &str) -> Result<Vec<u8>, Fail> {
     let mut bytes = Vec::new(alloc);
     for letter in letters.as_bytes() {
         if *letter != b'-' {
@@ -201,7 +202,7 @@ fn certificate_of(alloc: Global, signatures: &[u8]) -> Result<Vec<u8>, Fail> {
 }
 
 // The cosigner with this number, as it is known.
-fn known(alloc: Global, number: u8, key: &Key) -> Result<Known, Fail> {
+fn known(alloc: Global, number: u8, key: &HssKey) -> Result<Known, Fail> {
     Ok(Known {
         id: id_of(alloc, number)?,
         key: key.public(),
@@ -209,7 +210,7 @@ fn known(alloc: Global, number: u8, key: &Key) -> Result<Known, Fail> {
 }
 
 // The cosigners with these keys, from the number 2 on.
-fn all_known(alloc: Global, keys: &[Key]) -> Result<Vec<Known>, Fail> {
+fn all_known(alloc: Global, keys: &[HssKey]) -> Result<Vec<Known>, Fail> {
     let mut all = Vec::new(alloc);
     for (key, number) in keys.iter().zip(2..5u8) {
         all.push(known(alloc, number, key)?)?;
@@ -218,7 +219,7 @@ fn all_known(alloc: Global, keys: &[Key]) -> Result<Vec<Known>, Fail> {
 }
 
 // The same, where they are not too many.
-fn cosigners_of(alloc: Global, keys: &[Key]) -> Result<Cosigners, Fail> {
+fn cosigners_of(alloc: Global, keys: &[HssKey]) -> Result<Cosigners, Fail> {
     let all = all_known(alloc, keys)?;
     if all.len() > 64 {
         return Err(Fail::from("too many"));
@@ -251,7 +252,7 @@ fn rules_of(alloc: Global, words: &str) -> Result<Rules, Fail> {
 }
 
 // A store of three cosigners with these rules, which trusts the hash that ends with this byte.
-fn store_with(alloc: Global, keys: &[Key], words: &str, last: &str) -> Result<ValidStore, Fail> {
+fn store_with(alloc: Global, keys: &[HssKey], words: &str, last: &str) -> Result<ValidStore, Fail> {
     let cosigners = cosigners_of(alloc, keys)?;
     let rules = rules_of(alloc, words)?;
     let subtrees = trusted_in(alloc, last)?;
@@ -303,7 +304,7 @@ fn judged(alloc: Global, certificate: &[u8], store: &ValidStore) -> Result<Strin
 }
 
 // The certificate with the signatures of these letters.
-fn signed(alloc: Global, keys: &mut Vec<Key>, letters: &str) -> Result<Vec<u8>, Fail> {
+fn signed(alloc: Global, keys: &mut Vec<HssKey>, letters: &str) -> Result<Vec<u8>, Fail> {
     let signatures = signatures_of(alloc, keys, letters)?;
     certificate_of(alloc, signatures.as_slice())
 }
@@ -312,7 +313,7 @@ fn signed(alloc: Global, keys: &mut Vec<Key>, letters: &str) -> Result<Vec<u8>, 
 fn judged_by(
     alloc: Global,
     certificate: &[u8],
-    keys: &[Key],
+    keys: &[HssKey],
     rules: &str,
     last: &str,
 ) -> Result<String, Fail> {
@@ -320,7 +321,7 @@ fn judged_by(
     judged(alloc, certificate, &store)
 }
 
-fn is_judged(alloc: Global, keys: &mut Vec<Key>, line: &str) -> Result<bool, Fail> {
+fn is_judged(alloc: Global, keys: &mut Vec<HssKey>, line: &str) -> Result<bool, Fail> {
     let mut words = line.split(' ');
     let certificate = signed(alloc, keys, words.next().unwrap_or(""))?;
     let (rules, last) = (words.next().unwrap_or(""), words.next().unwrap_or(""));

@@ -1,10 +1,10 @@
 //! Keys from their first one-time key on.
 
 use crate::known::{MESSAGE, secret};
-use hss_core::{Key, verify};
+use hss_core::verify;
 use hss_keys::HssKey;
 use lmots_core::{OtsType, SigBuf};
-use lms_core::LmsType;
+use lms_core::{LmsType, Tree};
 use mtc_io::Memory;
 use std::alloc::Global;
 use std::test::Fail;
@@ -83,17 +83,21 @@ fn last_tree(alloc: Global) -> Result<Option<(u32, bool, u32, u32)>, Memory> {
     Ok(Some((signed, more, key.children(), key.next())))
 }
 
-// Whether a key of one level signs as a key of one tree does.
+// Whether a key of one level signs with its eighth one-time key as its tree does, after the number
+// of levels below the top, which is 0.
 fn as_one_tree(alloc: Global) -> Result<bool, Memory> {
     let Some(secret) = secret() else {
         return Ok(false);
     };
-    let mut one = Key::make(alloc, LmsType::H5, OtsType::W4, &secret, 7)?;
-    let mut same = HssKey::make(alloc, LmsType::H5, None, OtsType::W4, &secret, 0, 7)?;
-    let (mut a, mut b) = (SigBuf::new(), SigBuf::new());
-    one.sign(&MESSAGE, &mut a);
-    same.sign(&MESSAGE, &mut b);
-    Ok(one.public() == same.public() && a.as_slice() == b.as_slice() && same.left() == 24)
+    let tree = Tree::make(alloc, LmsType::H5, OtsType::W4, &secret)?;
+    let mut key = HssKey::make(alloc, LmsType::H5, None, OtsType::W4, &secret, 0, 7)?;
+    let (mut wanted, mut made) = (SigBuf::new(), SigBuf::new());
+    wanted.append(&[0; 4]);
+    tree.sign(7, &MESSAGE, &mut wanted);
+    key.sign(&MESSAGE, &mut made);
+    let public = key.public();
+    let same_key = public.starts_with(&[0, 0, 0, 1]) && public.ends_with(&tree.public());
+    Ok(same_key && made.as_slice() == wanted.as_slice() && key.left() == 24)
 }
 
 #[test]

@@ -6,7 +6,8 @@ ghost use Rattle.lms_core.specs.Heights.{IsSigningHeight};
 use crate::verifying::name_of;
 use crate::words::{bytes_of, word};
 use anyhow::{Context, Result, bail, ensure};
-use hss_core::{Key, LmsType, OtsType, Secret, SigBuf, verify};
+use hss_core::{LmsType, OtsType, Secret, SigBuf, verify};
+use hss_keys::HssKey;
 use lms_core::Tree;
 use sha2::{Digest, Sha256};
 use std::alloc::Global;
@@ -42,13 +43,13 @@ fn secret_of(alloc: Global, word: &str) -> Result<Secret> {
 }
 
 // The key that the words describe.
-fn key_of(alloc: Global, height: &str, width: &str, secret: &str, next: &str) -> Result<Key> {
+fn key_of(alloc: Global, height: &str, width: &str, secret: &str, next: &str) -> Result<HssKey> {
     let lms = height_of(height).context("no height of keys")?;
     let ots = width_of(width).context("no width")?;
     let next = next.parse::<u32>().context("no number")?;
     ensure!(next <= lms.leaves(), "no number of the tree");
     let secret = secret_of(alloc, secret)?;
-    match Key::make(alloc, lms, ots, &secret, next) {
+    match HssKey::make(alloc, lms, None, ots, &secret, 0, next) {
         Ok(key) => Ok(key),
         Err(_) => bail!("no memory"),
     }
@@ -80,7 +81,7 @@ fn signature_line(alloc: Global, used: u32, signature: &[u8], name: &str) -> Res
 
 // Signs a message, and answers with the number used, the signature's length and SHA-256, and
 // whether it verifies.
-fn signed(alloc: Global, key: &mut Key, message: &[u8]) -> Result<String> {
+fn signed(alloc: Global, key: &mut HssKey, message: &[u8]) -> Result<String> {
     ensure!(key.left() != 0, "no one-time key is left");
     let used = key.next();
     let public = key.public();
@@ -91,25 +92,31 @@ fn signed(alloc: Global, key: &mut Key, message: &[u8]) -> Result<String> {
 }
 
 // The same of the message of a word.
-fn signed_word(alloc: Global, key: &mut Key, word: &str) -> Result<String> {
+fn signed_word(alloc: Global, key: &mut HssKey, word: &str) -> Result<String> {
     let message = bytes_of(alloc, word)?;
     signed(alloc, key, &message)
 }
 
 // Appends what signing the message of a word answers.
-fn add_signed(alloc: Global, text: &mut String, key: &mut Key, word: &str) -> Result<()> {
+fn add_signed(alloc: Global, text: &mut String, key: &mut HssKey, word: &str) -> Result<()> {
     let line = signed_word(alloc, key, word)?;
     text.push_str(line.as_str())?;
     Ok(())
 }
 
-fn key_line(alloc: Global, height: &str, width: &str, key: &Key) -> Result<String> {
+fn key_line(alloc: Global, height: &str, width: &str, key: &HssKey) -> Result<String> {
     let public = hex::encode(alloc, key.public())?;
     Ok(format!(in alloc; "{height} {width} {public}\n")?)
 }
 
 // The lines of a key, by the words that describe it and the messages.
-fn lines_of(alloc: Global, height: &str, width: &str, key: &mut Key, rest: &str) -> Result<String> {
+fn lines_of(
+    alloc: Global,
+    height: &str,
+    width: &str,
+    key: &mut HssKey,
+    rest: &str,
+) -> Result<String> {
     let mut text = key_line(alloc, height, width, key)?;
     for word in rest.split(' ').skip(MESSAGES) {
         add_signed(alloc, &mut text, key, word)?;
