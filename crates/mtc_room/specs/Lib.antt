@@ -3,4 +3,3 @@ pub mod Places
 pub mod Room
 pub mod MemoryLaws
 pub mod Opened
-pub mod Reasons
