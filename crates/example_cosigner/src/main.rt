@@ -11,7 +11,7 @@ ghost use Rattle.mtc_library.specs.Cosigning.{cosigner_state, signature_by, sign
 
 use anyhow::bail;
 use mtc_library::cosigning::{
-    AnchorId, Bytes, Cosigner, CosignerSettings, Disk, FileDisk, LmsType, OtsType,
+    AnchorId, Bytes, Cosigner, CosignerSettings, Disk, FileDisk, LmsType, Opened, OtsType,
     ReservedSignature, Secret, Sha, SigBuf, SubtreeRequest, begin_cosigner, new_journal,
     open_journal, read_advance, read_subtree,
 };
@@ -33,9 +33,9 @@ fn id_of(alloc: Global, text: &str) -> anyhow::Result<AnchorId> {
 // The cosigner of a new journal, which begins with the secret.
 fn begun(
     alloc: Global,
-    device: FileDisk,
+    device: FileDisk<Opened>,
     secret: &[u8],
-) -> anyhow::Result<Cosigner<Sha, FileDisk>> {
+) -> anyhow::Result<Cosigner<Sha, FileDisk<Opened>>> {
     let settings = CosignerSettings {
         id: id_of(alloc, "32473.2")?,
         log: id_of(alloc, "32473.1")?,
@@ -53,7 +53,10 @@ fn begun(
 }
 
 // The cosigner that the records of a journal make.
-fn opened(alloc: Global, device: FileDisk) -> anyhow::Result<Cosigner<Sha, FileDisk>> {
+fn opened(
+    alloc: Global,
+    device: FileDisk<Opened>,
+) -> anyhow::Result<Cosigner<Sha, FileDisk<Opened>>> {
     match Cosigner::open(alloc, device) {
         Ok(cosigner) => Ok(cosigner),
         Err(refused) => bail!("the journal: {}", refused.why),
@@ -67,7 +70,7 @@ fn cosigner_of<R: Files<File = File>>(
     alloc: Global,
     journal: &str,
     secret: Option<&[u8]>,
-) -> anyhow::Result<Cosigner<Sha, FileDisk>> {
+) -> anyhow::Result<Cosigner<Sha, FileDisk<Opened>>> {
     match secret {
         Some(secret) => begun(alloc, new_journal(files, journal)?, secret),
         None => opened(alloc, open_journal(files, journal)?),

@@ -52,10 +52,13 @@ fn make_growth<H: TreeHash, D: Disk, T: Disk>(
 /// holds is a prefix of them. The mirror computes both from its items, once it has compared what is
 /// held with them. At Ok a crash leaves the records of the cosigner with the Advance; at any time
 /// of the call it leaves the old records, or these and that one. The journal of the mirror isn't
-/// called, and the disk of its tiles only read. It takes no memory.
+/// called, and the disk of its tiles only read.
 ///
 /// It keeps what the records of both have in common: if all that a crash may leave of both journals
 /// agrees before the call, so does all that it may leave since then.
+///
+/// It asks for memory only to retain the nodes inside a tile that it reads. If that is refused, the
+/// nodes are hashed one by one, and the answer is the same.
 ///
 /// Errors, in the order of the tests: `Beyond` with the mirror's size where it has fewer items;
 /// `NotMine` where what is held is not of its first items; and what [`KeylessCosigner::advance`]

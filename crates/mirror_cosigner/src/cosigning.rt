@@ -57,10 +57,12 @@ fn make_signing<H: TreeHash, D: Disk, T: Disk>(
 /// held from its items, once it has compared what is held with them. At Ok a crash leaves the
 /// records of the cosigner with the Sign; at any time of the call it leaves the old records, or
 /// these and that one. The journal of the mirror isn't called, and the disk of its tiles only read.
-/// It takes no memory.
 ///
 /// It keeps what the records of both have in common: if all that a crash may leave of both journals
 /// agrees before the call, so does all that it may leave since then.
+///
+/// It asks for memory only to retain the nodes inside a tile that it reads. If that is refused, the
+/// nodes are hashed one by one, and the answer is the same.
 ///
 /// Errors, in the order of the tests: `NotMine` where what is held is not of the mirror's first
 /// items; `BadSubtree` where the interval is no subtree; `Beyond` with the held size where the

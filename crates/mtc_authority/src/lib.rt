@@ -8,7 +8,7 @@
 //! answer, and what it leaves of the journal, are definitions in `specs/`.
 //!
 //! No clause says that the tiles are closed before the journal, or that no call asks for their file
-//! if there is no journal: that is tested alone. No clause says that there are 64 frames.
+//! if there is no journal: that is tested alone. No clause says how many frames there are.
 #![tactic(auto)]
 
 pub mod cert;

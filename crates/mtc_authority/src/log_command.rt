@@ -19,6 +19,7 @@ use mtc_command::{Answer, Stop, tiles_name};
 use mtc_io::Sink;
 use mtc_lines::Written;
 use mtc_room::Room;
+use mtc_tiled::OPENING_FRAMES;
 use std::alloc::Global;
 use tree_core::TreeHash;
 
@@ -51,7 +52,8 @@ pub fn on_log<'a, H: TreeHash, R: Room>(
     ensures spares { SparesTiles R.Room room.old room.new journal.now }
 {
     let name = tiles_name(alloc, journal)?;
-    let mut log = open_log::<H, R>(alloc, room, journal, &name)?;
+    let frames = work.frames();
+    let mut log = open_log::<H, R>(alloc, room, journal, &name, frames)?;
     log.law_sound();
     let answer = carry_out(alloc, journal, &mut log, work);
     close_log::<H, R>(room, journal, &name, log);
@@ -89,7 +91,7 @@ pub fn stream_log<'a, H: TreeHash, R: Room, O: Sink>(
     ensures spares { SparesTiles R.Room room.old room.new journal.now }
 {
     let name = tiles_name(alloc, journal)?;
-    let mut log = open_log::<H, R>(alloc, room, journal, &name)?;
+    let mut log = open_log::<H, R>(alloc, room, journal, &name, OPENING_FRAMES)?;
     let written = write_entries(alloc, journal, &mut log, work, out);
     close_log::<H, R>(room, journal, &name, log);
     written

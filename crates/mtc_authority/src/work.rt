@@ -1,7 +1,7 @@
 //! The work of a command on a log whose journal is open: its own refusals, its text, and at most
 //! one append, which is its last step.
 
-ghost use Rattle.std.specs.Prelude.{◌≡◌, false};
+ghost use Rattle.std.specs.Prelude.{◌≡◌, ◌≤◌, false};
 ghost use Rattle.mtc_authority.specs.StoredTiles.{StoresTiles};
 ghost use Rattle.mtc_authority.specs.Works.{HasWorkedOnLog, IsReadyLog, OnlyReadsTiles, StaysLog};
 ghost use Rattle.mtc_authority.specs.Works.{lists_items, log_says};
@@ -20,6 +20,7 @@ use authority_core::Request;
 use disk_core::Disk;
 use issuance_log::Log;
 use mtc_command::{Answer, Stop};
+use mtc_tiled::{FRAMES, OPENING_FRAMES};
 use std::alloc::Global;
 use tree_core::TreeHash;
 
@@ -61,6 +62,25 @@ pub enum Work {
     Switch,
     /// The tiles that the entries fill are stored.
     Tile,
+}
+
+impl Work {
+    /// How many frames the pool of the log has for this work: few where it asks for no node.
+    pub(crate) fn frames(&self) -> usize
+        ensures some { 1 ≤ result }
+        ensures few { result ≤ 65536 }
+    {
+        match self {
+            Work::Issue(_)
+            | Work::IssueList(_)
+            | Work::Landmark
+            | Work::Landmarks
+            | Work::Switch
+            | Work::Entries(_)
+            | Work::EntriesFrom(_, _) => OPENING_FRAMES,
+            _ => FRAMES,
+        }
+    }
 }
 
 /// Carries out a command on the log of a journal, unless it lists items. A failure of a device is

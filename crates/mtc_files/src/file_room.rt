@@ -4,22 +4,29 @@ ghost use Rattle.std.specs.Prelude.{◌≡◌, ◌+◌, ◌≤◌, ◌<◌, ◌^
 ghost use Rattle.mtc_io.specs.Counts.{Rose, with_count};
 ghost use Rattle.mtc_room.specs.Room.{Opens};
 ghost use Rattle.disk_core.specs.File.{file_faults, file_clock};
+ghost use Rattle.mtc_files.specs.Access.{room_access};
 
+use crate::access::Access;
 use crate::held::Held;
-use crate::journal::{create_journal, hold_journal, hold_new, hold_tiles, open_to_write};
+use crate::journal::{create_journal, hold_journal, hold_new, hold_tiles, open_plain, share_tiles};
+use crate::opened::Opened;
+use crate::written::{Content, Written};
 use disk_core::{Disk, FileDisk};
 use mtc_io::{Failed, Source, StdSource};
 use mtc_room::{Cause, Room, RoomError};
-use std::fs;
+use std::fs::{self, OpenFile};
 use std::io::{self, ErrorKind};
+use std::os::unix::fs::FileExt;
 use std::rt::Files;
 
 /// The files of the system. The model knows nothing of them: what a file holds is taken as it
-/// comes. A journal, or the file of its tiles, is opened for this process alone, and its name is on
-/// the disk before it is opened.
+/// comes. A journal, or its tile file, is opened for this process alone, or only to be read, as the
+/// [`Access`] says; and its name is on the disk before it is opened. Where files are only read no
+/// journal is made and none is written: the device refuses it, and the file system fails.
 #[derive(Drop)]
 pub struct FileRoom<'a, R> {
     files: &'a R,
+    access: Access,
     opened: u64,
     faults: u64,
     cause: Cause,
@@ -39,17 +46,41 @@ fn is_absent(why: &io::Error) -> bool {
     matches!(why.kind(), ErrorKind::NotFound | ErrorKind::NotADirectory)
 }
 
+// What this process holds, as it may be used.
+fn opened<F: OpenFile + FileExt + Drop>(
+    held: io::Result<F>,
+    access: Access,
+    content: Content,
+) -> io::Result<Opened<F>> {
+    let file = held?;
+    Ok(match access {
+        Access::Read => Opened::ToRead(file),
+        Access::Write => Opened::ToWrite(Written::new(file, content)?),
+    })
+}
+
+// Makes the empty file of a new journal, where files may be written.
+fn create_to_write<R: Files>(files: &R, name: &str, access: Access) -> io::Result<R::File> {
+    match access {
+        Access::Read => Err(io::Error::from(ErrorKind::PermissionDenied)),
+        Access::Write => create_journal(files, name),
+    }
+}
+
 impl<'a, R: Files> FileRoom<'a, R>
 where
     R::File: Held,
 {
-    /// A file system with nothing open, and no failure so far.
-    pub fn new(files: &'a R) -> FileRoom<'a, R>
+    /// A file system with nothing open, and no failure so far, whose journals and tile files are
+    /// opened so.
+    pub fn new(files: &'a R, access: Access) -> FileRoom<'a, R>
+        ensures access { room_access result ≡ access }
         ensures opened { ⟦<FileRoom<'a, R> as Room>⟧.opened result ≡ 0 }
         ensures faults { ⟦<FileRoom<'a, R> as Room>⟧.faults result ≡ 0 }
     {
         FileRoom {
             files,
+            access,
             opened: 0,
             faults: 0,
             cause: Cause::Failed,
@@ -82,8 +113,11 @@ where
         self.opened -= 1;
     }
 
-    // Opens a journal that this process holds, or counts the failure.
-    fn open_file(&mut self, held: io::Result<R::File>) -> Result<FileDisk<R::File>, RoomError>
+    // Opens a file that this process holds, or counts the failure.
+    fn open_file(
+        &mut self,
+        held: io::Result<Opened<R::File>>,
+    ) -> Result<FileDisk<Opened<R::File>>, RoomError>
         requires { self.old.opened < 2 ^ 32 }
         ensures opens { Opens self.old.opened self.new.opened
             self.old.faults self.new.faults result }
@@ -107,7 +141,7 @@ where
 {
     type Src = StdSource<R::File>;
 
-    type Dsk = FileDisk<R::File>;
+    type Dsk = FileDisk<Opened<R::File>>;
 
     ghost is_modelled = { λ _. ⊥ };
 
@@ -134,31 +168,34 @@ where
         }
     }
 
-    fn disk(&mut self, name: &str) -> Result<FileDisk<R::File>, RoomError> {
-        match open_to_write(self.files, name) {
+    fn disk(&mut self, name: &str) -> Result<FileDisk<Opened<R::File>>, RoomError> {
+        match open_plain(self.files, name, self.access) {
             Ok(file) => {
-                let held = hold_journal(self.files, file, name);
-                self.open_file(held)
+                let held = hold_journal(self.files, file, name, self.access);
+                self.open_file(opened(held, self.access, Content::Journal))
             }
             Err(why) if is_absent(&why) => Err(RoomError::Absent),
             Err(why) => Err(self.fail(&why)),
         }
     }
 
-    fn fresh(&mut self, name: &str) -> Result<FileDisk<R::File>, RoomError> {
-        match create_journal(self.files, name) {
+    fn fresh(&mut self, name: &str) -> Result<FileDisk<Opened<R::File>>, RoomError> {
+        match create_to_write(self.files, name, self.access) {
             Ok(file) => {
                 // A file that isn't held stays: its name may lead to another command's by now.
-                let held = hold_new(self.files, file, name);
-                self.open_file(held)
+                let held = hold_new(self.files, file, name, self.access);
+                self.open_file(opened(held, self.access, Content::Journal))
             }
             Err(why) if why.kind() == ErrorKind::AlreadyExists => Err(RoomError::Exists),
             Err(why) => Err(self.fail(&why)),
         }
     }
 
-    fn scratch(&mut self, name: &str) -> Result<FileDisk<R::File>, Failed> {
-        let held = hold_tiles(self.files, name);
+    fn scratch(&mut self, name: &str) -> Result<FileDisk<Opened<R::File>>, Failed> {
+        let held = match self.access {
+            Access::Read => share_tiles(self.files, name),
+            Access::Write => opened(hold_tiles(self.files, name), self.access, Content::Tiles),
+        };
         match self.open_file(held) {
             Ok(disk) => Ok(disk),
             Err(_) => Err(Failed),
@@ -173,7 +210,7 @@ where
         self.take_back(source.faults());
     }
 
-    fn keep(&mut self, _name: &str, disk: FileDisk<R::File>) {
+    fn keep(&mut self, _name: &str, disk: FileDisk<Opened<R::File>>) {
         self.take_back(disk.faults());
     }
 

@@ -10,6 +10,10 @@ pub trait Held: OpenFile + FileExt {
     /// already. The lock is held until the file is closed.
     fn try_hold(&self) -> Result<(), TryLockError>;
 
+    /// Locks the file for all that only read it, likewise: `WouldBlock` where a process has it for
+    /// itself alone.
+    fn try_share(&self) -> Result<(), TryLockError>;
+
     /// The number of its descriptor.
     fn descriptor(&self) -> i32;
 }
@@ -17,6 +21,10 @@ pub trait Held: OpenFile + FileExt {
 impl Held for File {
     fn try_hold(&self) -> Result<(), TryLockError> {
         self.try_lock()
+    }
+
+    fn try_share(&self) -> Result<(), TryLockError> {
+        self.try_lock_shared()
     }
 
     fn descriptor(&self) -> i32 {

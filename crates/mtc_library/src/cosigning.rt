@@ -8,7 +8,7 @@ pub use cosigner_core::{
 pub use disk_core::{Disk, FileDisk, MemDisk};
 pub use hss_core::{LmsType, OtsType, PUBLIC_KEY_LEN, Secret, SigBuf};
 pub use journal_core::{AppendError, OpenError, Refused, StartError};
-pub use mtc_files::{Held, new_journal, open_journal};
+pub use mtc_files::{Held, Opened, new_journal, open_journal};
 pub use mtc_io::{Bytes, Failed, MemSink, Memory, Sink, StdSink};
 pub use mtc_proof::{ReservedSignature, put_signature};
 pub use tls_wire::{AnchorBytesError, AnchorError, AnchorId};

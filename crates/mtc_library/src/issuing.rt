@@ -12,7 +12,7 @@ pub use frame_pool::Pool;
 pub use issuance_log::{Log, LogError, LogOpenError, LogRefused, LogSettings};
 pub use journal_core::{AppendError, OpenError, StartError};
 pub use landmarks::{Landmarks, MOST_ACTIVE, MOST_ENTRIES};
-pub use mtc_files::{Held, new_journal, open_journal, open_tiles};
+pub use mtc_files::{Held, Opened, new_journal, open_journal, open_tiles};
 pub use mtc_io::{Bytes, Failed, Memory};
 pub use mtc_proof::{ProofError, check_signatures};
 pub use tile_store::TileError;

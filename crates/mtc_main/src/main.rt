@@ -7,12 +7,16 @@
 //! status.
 #![tactic(auto)]
 
-ghost use Rattle.std.specs.Prelude.{◌≡◌, map, string_bytes};
+ghost use Rattle.std.specs.Prelude.{◌≡◌, true, map, string_bytes};
 ghost use Rattle.std.specs.Process.{exit_status};
+ghost use Rattle.mtc_words.specs.Words.{command_of};
+ghost use Rattle.mtc_access.specs.Asking.{words_ask_only};
+ghost use Rattle.mtc_files.specs.Access.{room_access};
 ghost use Rattle.mtc_top.specs.Run.{HasRun};
 
 use disk_core::{Disk, FileDisk};
-use mtc_files::{FileRoom, LineSink};
+use mtc_access::words_only_ask;
+use mtc_files::{Access, FileRoom, LineSink, Opened};
 use mtc_io::{Sink, StdSink, write_all};
 use mtc_top::{Room, run};
 use std::alloc::Global;
@@ -48,7 +52,20 @@ fn refuse(err: &mut impl Sink, why: &io::Error) -> u8 {
     }
 }
 
-// Does what the arguments say with SHA-256, over the system's files and the standard streams.
+// How the journals of a command are opened: to be read alone if it only asks. Where memory is
+// refused they are opened as those of a command that may write them.
+fn access_of(alloc: Global, words: &[String]) -> Access
+    ensures { result ≡ Access.Read
+        → words_ask_only (command_of (map string_bytes words.now)) ≡ true }
+{
+    match words_only_ask(alloc, words) {
+        Ok(true) => Access::Read,
+        _ => Access::Write,
+    }
+}
+
+// Does what the arguments say with SHA-256, over the system's files and the standard streams. The
+// files of a command that may write its journals aren't opened to be read alone.
 fn act<'a, R: Files<File = File>>(
     alloc: Global,
     words: &[String],
@@ -56,9 +73,11 @@ fn act<'a, R: Files<File = File>>(
     out: &mut StdSink<Stdout>,
     err: &mut LineSink<Stderr>,
 ) -> ExitCode
-    requires { ⟦<FileRoom<'a, R> as Room>⟧.opened room.old ≡ 0 }
+    requires opened { ⟦<FileRoom<'a, R> as Room>⟧.opened room.old ≡ 0 }
+    requires access { room_access room.old ≡ Access.Read
+        → words_ask_only (command_of (map string_bytes words.now)) ≡ true }
     ensures { HasRun ⟦<Sha as TreeHash>⟧.hash ⟦<FileRoom<'a, R> as Room>⟧
-        ⟦<FileDisk<File> as Disk>⟧ ⟦<StdSink<Stdout> as Sink>⟧ ⟦<LineSink<Stderr> as Sink>⟧
+        ⟦<FileDisk<Opened<File>> as Disk>⟧ ⟦<StdSink<Stdout> as Sink>⟧ ⟦<LineSink<Stderr> as Sink>⟧
         (map string_bytes words.now) room.old room.new out.old out.new err.old err.new
         (exit_status result) }
 {
@@ -69,7 +88,8 @@ fn main(rt: HostRuntime) -> ExitCode {
     let mut err = LineSink::new(rt.stderr());
     let code = match words_after_name(&rt) {
         Ok(words) => {
-            let mut room = FileRoom::new(&rt);
+            let access = access_of(rt.alloc(), &words);
+            let mut room = FileRoom::new(&rt, access);
             let mut out = StdSink::new(rt.stdout());
             act(rt.alloc(), &words, &mut room, &mut out, &mut err)
         }

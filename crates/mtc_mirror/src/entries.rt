@@ -19,7 +19,7 @@ use mtc_command::{Reason, Stop, Stopped, refuse, tiles_name};
 use mtc_io::Sink;
 use mtc_lines::Written;
 use mtc_room::Room;
-use mtc_tiled::FRAMES;
+use mtc_tiled::OPENING_FRAMES;
 use std::alloc::Global;
 use tree_core::TreeHash;
 
@@ -68,7 +68,7 @@ pub fn mirror_entries<'a, H: TreeHash, R: Room, O: Sink>(
         (tiles_name journal.now) }
 {
     let name = tiles_name(alloc, journal)?;
-    let pool = Pool::new(alloc, FRAMES)?;
+    let pool = Pool::new(alloc, OPENING_FRAMES)?;
     let mut mirror = open_mirror::<H, R>(alloc, room, journal, &name, pool)?;
     mirror.law_sound();
     let written = entries_on(journal, &mut mirror, size, out);

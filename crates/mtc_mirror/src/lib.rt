@@ -7,8 +7,8 @@
 //! text while it reads the journal. What each command has to answer, and what it leaves of the
 //! journal, are definitions in `specs/`.
 //!
-//! No clause says that no call asks for the file of the tiles if there is no journal, or that there
-//! are 64 frames.
+//! No clause says that no call asks for the file of the tiles if there is no journal, or how many
+//! frames there are.
 #![tactic(auto)]
 
 pub mod entries;

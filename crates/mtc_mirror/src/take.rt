@@ -28,7 +28,7 @@ use mtc_command::{
 use mtc_io::{Bytes, Memory};
 use mtc_lines::items_reason;
 use mtc_room::Room;
-use mtc_tiled::FRAMES;
+use mtc_tiled::OPENING_FRAMES;
 use std::alloc::Global;
 use tree_core::TreeHash;
 
@@ -134,7 +134,7 @@ fn take_items<'a, H: TreeHash, R: Room>(
         (tiles_name journal.now) }
 {
     let name = tiles_name(alloc, journal)?;
-    let pool = Pool::new(alloc, FRAMES)?;
+    let pool = Pool::new(alloc, OPENING_FRAMES)?;
     let mut mirror = open_mirror::<H, R>(alloc, room, journal, &name, pool)?;
     mirror.law_sound();
     let answer = take_on(alloc, journal, &mut mirror, items);

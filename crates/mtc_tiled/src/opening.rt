@@ -15,8 +15,11 @@ use journal_core::{HEADER, OpenError};
 use mtc_command::{Stop, close, open_file, open_tiles};
 use mtc_room::Room;
 
-/// So many tiles are held in memory at once.
+/// So many tiles are held in memory at once by a command that asks for nodes.
 pub const FRAMES: usize = 64;
+
+/// So many tiles are held by a command that asks for none: an opening compares tiles one by one.
+pub const OPENING_FRAMES: usize = 1;
 
 // Reads the header of a journal, before the file of its tiles is opened.
 fn read_header<D: Disk>(disk: &mut D) -> Result<(), OpenError>

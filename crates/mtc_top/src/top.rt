@@ -320,7 +320,8 @@ fn answer<'a, H: TreeHash, R: Room, O: Sink>(
 /// a prefix of the text may have gone out, with 8 not its last byte. After it is opened that
 /// journal is only read.
 ///
-/// What follows of each run, and how it ends as steps of a party, is [`crate::law_runs_are_steps`].
+/// What follows of each run, and how it ends as steps of a party, says
+/// `mtc_laws::law_runs_are_steps`.
 pub fn run<H: TreeHash, R: Room, O: Sink, E: Sink>(
     alloc: Global,
     words: &[String],

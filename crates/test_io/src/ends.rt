@@ -1,10 +1,12 @@
 //! In which order the file system of real files calls the system.
 
 use crate::noted::{Call, Noted, Wanted};
-use crate::system::{device_refusal, disk_refusal, fresh_refusal, new_refusal, scratch_refusal};
+use crate::system::{
+    beside_refusal, device_refusal, fresh_refusal, journal_refusal, new_refusal, read_refusal,
+};
 use disk_core::Disk;
 use journal_core::{HEADER, OpenError, Opening, Refused};
-use mtc_files::FileRoom;
+use mtc_files::{Access, FileRoom};
 use mtc_room::{Room, RoomError};
 use std::alloc::{AllocError, Global};
 use std::fs::{self, File, Permissions};
@@ -13,14 +15,14 @@ use std::os::unix::fs::PermissionsExt;
 use std::rt::Files;
 use std::test::Fail;
 
-// What a file system is asked for: a journal, a new one, or a file of tiles. Or the device alone of
-// a journal, or of a new one.
+// What a file system is asked for: a journal or a tile file, to write or to read it, or a new
+// journal. Or the device alone of a journal, to write or to read it, or of a new one.
 #[derive(Clone, Copy)]
-enum Asked {
-    Journal,
+pub enum Asked {
+    Journal(Access),
     New,
-    Tiles,
-    Device,
+    Tiles(Access),
+    Device(Access),
     NewDevice,
 }
 
@@ -33,39 +35,44 @@ fn refusal<R: Files<File = File>>(
 ) -> Option<RoomError> {
     let noted = Noted { files, wanted };
     match asked {
-        Asked::Journal => disk_refusal(&noted, name),
+        Asked::Journal(access) => journal_refusal(&noted, name, access),
         Asked::New => fresh_refusal(&noted, name),
-        Asked::Tiles => scratch_refusal(&noted, name),
-        Asked::Device => device_refusal(&noted, name),
+        Asked::Tiles(access) => beside_refusal(&noted, name, access),
+        Asked::Device(Access::Write) => device_refusal(&noted, name),
+        Asked::Device(Access::Read) => read_refusal(&noted, name),
         Asked::NewDevice => new_refusal(&noted, name),
     }
 }
 
 // Why it doesn't, and how many calls that took where each was the one to come.
-type Ended = (Option<RoomError>, Option<usize>);
+pub type Ended = (Option<RoomError>, Option<usize>);
 
-fn ended<R: Files<File = File>>(files: &R, asked: Asked, name: &str, wanted: &Wanted) -> Ended {
+pub fn ended<R: Files<File = File>>(files: &R, asked: Asked, name: &str, wanted: &Wanted) -> Ended {
     (refusal(files, asked, name, wanted), wanted.met())
 }
 
-// Of so many bytes, those from an offset on are written again, in pieces of which the last one has
-// a size of its own; before that so many of the first ones are read, or none.
-type End = (u64, u64, u64, usize, usize);
+// Of so many bytes so many of the first ones are read, or none; and those from an offset on are
+// written again, in pieces of which the last one has a size of its own.
+pub type End = (u64, usize, u64, u64, usize);
 
 const ENDS: [End; 12] = [
     (0, 0, 0, 0, 0),
     (15, 0, 0, 0, 0),
-    (16, 0, 1, 16, 16),
-    (22, 0, 1, 22, 22),
-    (4095, 0, 1, 4095, 22),
-    (4096, 0, 1, 4096, 22),
-    (4097, 0, 2, 1, 22),
-    (131_094, 0, 33, 22, 22),
-    (135_167, 0, 33, 4095, 22),
-    (135_168, 0, 33, 4096, 22),
-    (135_169, 1, 33, 4096, 22),
-    (300_000, 164_832, 33, 4096, 22),
+    (16, 16, 0, 1, 16),
+    (22, 22, 0, 1, 22),
+    (4095, 22, 0, 1, 4095),
+    (4096, 22, 0, 1, 4096),
+    (4097, 22, 0, 2, 1),
+    (131_094, 22, 0, 33, 22),
+    (135_167, 22, 0, 33, 4095),
+    (135_168, 22, 0, 33, 4096),
+    (135_169, 22, 1, 33, 4096),
+    (300_000, 22, 164_832, 33, 4096),
 ];
+
+pub const SHORT: End = (4097, 22, 0, 2, 1);
+
+pub const LONG: End = (135_169, 22, 1, 33, 4096);
 
 // Puts the reads and the writes of so many pieces after other calls.
 fn add_pieces(
@@ -84,26 +91,36 @@ fn add_pieces(
 }
 
 // Puts those for a journal with such an end after them: it is locked, and the name leads to it,
-// before its bytes are touched; all are written before the folder is synced.
-fn add_calls(calls: &mut Vec<Call>, end: End) -> Result<(), AllocError> {
-    let (_, from, pieces, last, first) = end;
-    calls.extend_from_slice(&[Call::Open, Call::Lock, Call::Inspect, Call::Find])?;
+// before its bytes are touched; it is synced before any byte is read; and if it may be written all
+// is written before the folder is synced, and its length is asked for at last.
+fn add_calls(calls: &mut Vec<Call>, end: End, access: Access) -> Result<(), AllocError> {
+    let (_, first, from, pieces, last) = end;
+    calls.extend_from_slice(match access {
+        Access::Read => &[Call::Find, Call::OpenToRead, Call::Share],
+        Access::Write => &[Call::Open, Call::Lock],
+    })?;
+    calls.extend_from_slice(&[Call::Inspect, Call::Find, Call::Sync])?;
     if first > 0 {
         calls.push(Call::Read(0, first))?;
     }
-    add_pieces(calls, from, pieces, last)?;
+    if access == Access::Write {
+        add_pieces(calls, from, pieces, last)?;
+    }
     calls.extend_from_slice(&[Call::OpenFolder, Call::SyncFolder])?;
+    if access == Access::Write {
+        calls.push(Call::Inspect)?;
+    }
     Ok(())
 }
 
-fn calls_of(alloc: Global, end: End) -> Result<Vec<Call>, AllocError> {
+pub fn calls_of(alloc: Global, end: End, access: Access) -> Result<Vec<Call>, AllocError> {
     let mut calls = Vec::new(alloc);
-    add_calls(&mut calls, end)?;
+    add_calls(&mut calls, end, access)?;
     Ok(calls)
 }
 
 // Makes a file of so many bytes that begins with these.
-fn make<R: Files<File = File>>(
+pub fn make<R: Files<File = File>>(
     files: &R,
     alloc: Global,
     path: &str,
@@ -133,11 +150,12 @@ fn ended_by<R: Files<File = File>>(
     alloc: Global,
     path: &str,
     end: End,
+    access: Access,
 ) -> Result<(Ended, usize), AllocError> {
-    let calls = calls_of(alloc, end)?;
+    let calls = calls_of(alloc, end, access)?;
     let count = calls.len();
     Ok((
-        ended(files, Asked::Journal, path, &Wanted::new(calls)),
+        ended(files, Asked::Journal(access), path, &Wanted::new(calls)),
         count,
     ))
 }
@@ -149,19 +167,33 @@ fn ended_and_held<R: Files<File = File> + Alloc>(
     path: &str,
     begins: &[u8],
     end: End,
+    access: Access,
 ) -> io::Result<((Ended, usize), bool)> {
     let bytes = make(files, alloc, path, begins, end.0)?;
-    let ended = ended_by(files, alloc, path, end)?;
+    let ended = ended_by(files, alloc, path, end, access)?;
     Ok((ended, holds(files, path, &bytes)?))
 }
 
+// Whether a journal with such an end is opened by these calls, and holds the same bytes then.
+fn is_opened_by<R: Files<File = File> + Alloc>(
+    files: &R,
+    alloc: Global,
+    path: &str,
+    end: End,
+    access: Access,
+) -> io::Result<bool> {
+    let ((ended, count), held) = ended_and_held(files, alloc, path, &HEADER, end, access)?;
+    Ok(ended == (None, Some(count)) && held)
+}
+
 #[test]
-fn the_end_of_a_journal_is_written_after_its_lock(rt: HostRuntime) -> Result<(), Fail> {
+fn the_end_of_a_journal_is_written_again_after_its_lock(rt: HostRuntime) -> Result<(), Fail> {
     let path = "mtc_files_end_test";
     for end in ENDS {
-        let ((ended, count), held) = ended_and_held(&rt, rt.alloc(), path, &HEADER, end)?;
-        assert!(rt; ended == (None, Some(count)), "{} bytes", end.0);
-        assert!(rt; held, "the {} bytes", end.0);
+        for access in [Access::Read, Access::Write] {
+            let right = is_opened_by(&rt, rt.alloc(), path, end, access)?;
+            assert!(rt; right, "{} bytes", end.0);
+        }
     }
     fs::remove_file(&rt, path)?;
     Ok(())
@@ -181,155 +213,12 @@ fn another_file_is_not_written(rt: HostRuntime) -> Result<(), Fail> {
             rt.alloc(),
             path,
             begins,
-            (5000, 0, 0, 0, 22),
+            (5000, 22, 0, 0, 0),
+            Access::Write,
         )?;
-        assert!(rt; ended == (None, Some(7)) && held, "{}", begins[15]);
+        assert!(rt; ended == (None, Some(9)) && held, "{}", begins[15]);
     }
     fs::remove_file(&rt, path)?;
-    Ok(())
-}
-
-// The calls for a new journal, for a new file of tiles, and for one that is there.
-const NEW: [Call; 7] = [
-    Call::Create,
-    Call::Lock,
-    Call::FindLink,
-    Call::Inspect,
-    Call::Sync,
-    Call::OpenFolder,
-    Call::SyncFolder,
-];
-
-const NEW_TILES: [Call; 8] = [
-    Call::FindLink,
-    Call::Create,
-    Call::Lock,
-    Call::FindLink,
-    Call::Inspect,
-    Call::Sync,
-    Call::OpenFolder,
-    Call::SyncFolder,
-];
-
-const EMPTY_TILES: [Call; 6] = [
-    Call::FindLink,
-    Call::Open,
-    Call::Inspect,
-    Call::Lock,
-    Call::Inspect,
-    Call::FindLink,
-];
-
-const TILES: [Call; 8] = [
-    Call::FindLink,
-    Call::Open,
-    Call::Inspect,
-    Call::Read(0, 22),
-    Call::Lock,
-    Call::Inspect,
-    Call::FindLink,
-    Call::Read(0, 22),
-];
-
-fn first_bytes(asked: Asked) -> &'static [u8] {
-    match asked {
-        Asked::Journal | Asked::Device => &HEADER,
-        _ => &[],
-    }
-}
-
-// Removes a file, or makes one of so many bytes, which is a journal where one is asked for.
-fn prepare<R: Files<File = File>>(
-    files: &R,
-    alloc: Global,
-    asked: Asked,
-    path: &str,
-    length: Option<u64>,
-) -> io::Result<()> {
-    let _ = fs::remove_file(files, path);
-    match length {
-        Some(length) => {
-            make(files, alloc, path, first_bytes(asked), length)?;
-            Ok(())
-        }
-        None => Ok(()),
-    }
-}
-
-// What is asked for, of a file of so many bytes or of none; the calls for it, and the number of the
-// one that finds the file by its name after the lock.
-type Case = (Asked, Option<u64>, Vec<Call>, usize);
-
-fn cases(alloc: Global) -> Result<[Case; 8], AllocError> {
-    let short = calls_of(alloc, (4097, 0, 2, 1, 22))?;
-    let again = calls_of(alloc, (4097, 0, 2, 1, 22))?;
-    let long = calls_of(alloc, (135_169, 1, 33, 4096, 22))?;
-    Ok([
-        (Asked::Journal, Some(4097), short, 3),
-        (Asked::Journal, Some(135_169), long, 3),
-        (Asked::New, None, Vec::from_slice(alloc, &NEW)?, 2),
-        (Asked::Tiles, None, Vec::from_slice(alloc, &NEW_TILES)?, 3),
-        (
-            Asked::Tiles,
-            Some(0),
-            Vec::from_slice(alloc, &EMPTY_TILES)?,
-            5,
-        ),
-        (Asked::Tiles, Some(8192), Vec::from_slice(alloc, &TILES)?, 6),
-        (Asked::Device, Some(4097), again, 3),
-        (Asked::NewDevice, None, Vec::from_slice(alloc, &NEW)?, 2),
-    ])
-}
-
-// How a case ends of which the call of this number fails, or finds another file.
-fn tried<R: Files<File = File>>(
-    files: &R,
-    alloc: Global,
-    case: &Case,
-    failing: Option<usize>,
-    elsewhere: Option<usize>,
-) -> io::Result<(Option<RoomError>, Option<usize>)> {
-    let path = "mtc_files_order_test";
-    let (asked, length, calls, _) = case;
-    prepare(files, alloc, *asked, path, *length)?;
-    let mut wanted = Wanted::new(Vec::from_slice(alloc, calls)?);
-    wanted.failing = failing;
-    wanted.elsewhere = elsewhere;
-    let ended = ended(files, *asked, path, &wanted);
-    let _ = fs::remove_file(files, path);
-    Ok(ended)
-}
-
-// Whether a case makes its calls, and none after one that fails, or that finds another file by the
-// name. A new file's node is asked for after its name's.
-fn is_as_modelled<R: Files<File = File>>(
-    files: &R,
-    alloc: Global,
-    case: &Case,
-) -> io::Result<bool> {
-    let (_, _, calls, found) = case;
-    let mut right = tried(files, alloc, case, None, None)? == (None, Some(calls.len()));
-    for failing in 0..calls.len() {
-        let reported = (Some(RoomError::Failed), Some(failing.saturating_add(1)));
-        right = right && tried(files, alloc, case, Some(failing), None)? == reported;
-    }
-    let following = if calls.contains(&Call::Create) { 2 } else { 1 };
-    let reported = (
-        Some(RoomError::Failed),
-        Some(found.saturating_add(following)),
-    );
-    Ok(right && tried(files, alloc, case, None, Some(*found))? == reported)
-}
-
-#[test]
-fn the_room_calls_the_system_in_its_order(rt: HostRuntime) -> Result<(), Fail> {
-    for case in &cases(rt.alloc())? {
-        assert!(rt;
-            is_as_modelled(&rt, rt.alloc(), case)?,
-            "{} calls",
-            case.2.len()
-        );
-    }
     Ok(())
 }
 
@@ -343,12 +232,14 @@ fn a_file_is_moved_off_the_streams(rt: HostRuntime) -> Result<(), Fail> {
         Call::Lock,
         Call::Inspect,
         Call::Find,
+        Call::Sync,
         Call::OpenFolder,
         Call::SyncFolder,
+        Call::Inspect,
     ];
     let mut wanted = Wanted::new(Vec::from_slice(rt.alloc(), &calls)?);
     wanted.on_stream = true;
-    assert!(rt; ended(&rt, Asked::Journal, path, &wanted) == (None, Some(7)));
+    assert!(rt; ended(&rt, Asked::Journal(Access::Write), path, &wanted) == (None, Some(9)));
     fs::remove_file(&rt, path)?;
     Ok(())
 }
@@ -370,7 +261,7 @@ fn syncs_first<R: Files<File = File>>(
     wanted: &Wanted,
 ) -> bool {
     let noted = Noted { files, wanted };
-    let mut room = FileRoom::new(&noted);
+    let mut room = FileRoom::new(&noted, Access::Write);
     let Ok(disk) = room.disk(path) else {
         return false;
     };
@@ -379,18 +270,19 @@ fn syncs_first<R: Files<File = File>>(
     failed
 }
 
-// Whether it does where this call after all of these fails, and which number that has.
-fn last_fails<R: Files<File = File>>(
+// Whether it does where that sync fails, after which the file keeps its length; how many calls were
+// made, and how many are to come.
+fn sync_fails<R: Files<File = File>>(
     files: &R,
     alloc: Global,
     path: &str,
-    call: Call,
 ) -> Result<(bool, Option<usize>, usize), AllocError> {
-    let mut calls = calls_of(alloc, (4097, 0, 2, 1, 22))?;
-    calls.push(call)?;
+    let mut calls = calls_of(alloc, SHORT, Access::Write)?;
+    let before = calls.len();
+    calls.extend_from_slice(&[Call::Sync, Call::Cut(4097)])?;
     let count = calls.len();
     let mut wanted = Wanted::new(calls);
-    wanted.failing = Some(count.saturating_sub(1));
+    wanted.failing = Some(before);
     let synced = syncs_first(files, alloc, path, &wanted);
     Ok((synced, wanted.met(), count))
 }
@@ -399,7 +291,7 @@ fn last_fails<R: Files<File = File>>(
 fn the_opening_syncs_what_was_written_again(rt: HostRuntime) -> Result<(), Fail> {
     let path = "mtc_files_opening_test";
     make(&rt, rt.alloc(), path, &HEADER, 4097)?;
-    let (synced, met, count) = last_fails(&rt, rt.alloc(), path, Call::Sync)?;
+    let (synced, met, count) = sync_fails(&rt, rt.alloc(), path)?;
     assert!(rt; synced && met == Some(count));
     fs::remove_file(&rt, path)?;
     Ok(())

@@ -14,6 +14,8 @@ mod lines;
 #[cfg(test)]
 mod noted;
 #[cfg(test)]
+mod order;
+#[cfg(test)]
 mod others;
 #[cfg(test)]
 mod readings;
@@ -23,5 +25,7 @@ mod rooms;
 mod streams;
 #[cfg(test)]
 mod system;
+#[cfg(test)]
+mod undone;
 #[cfg(test)]
 mod windows;

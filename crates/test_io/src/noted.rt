@@ -12,31 +12,39 @@ use std::os::unix::fs::FileExt;
 use std::rt::Files;
 
 // A call of the system: for a name, whose link is followed or not; one that opens a file to be
-// written, a new file, or a folder; and of an open file one that locks it, moves its descriptor,
-// asks for its length and node, reads or writes so many bytes from an offset on, or syncs it.
+// written or to be read, a new file, or a folder; and of an open file one that locks it for one
+// process or for all readers, moves its descriptor, asks for its length and node, reads or writes
+// so many bytes from an offset on, cuts it off or makes it longer, so that it has so many bytes, or
+// syncs it.
 #[derive(Clone, Copy, PartialEq)]
 pub enum Call {
     Find,
     FindLink,
     Open,
+    OpenToRead,
     Create,
     OpenFolder,
     Lock,
+    Share,
     Move,
     Inspect,
     Read(u64, usize),
     Write(u64, usize),
+    Cut(u64),
     Sync,
     SyncFolder,
 }
 
-// Which calls are to come. One of these numbers fails, at one the name leads elsewhere, and an open
-// file may have the descriptor of a stream.
+// Which calls are to come. One of these numbers fails, and in which way; at one the name leads
+// elsewhere; at one a file is found open to others than its owner; and an open file may have the
+// descriptor of a stream.
 #[derive(Drop)]
 pub struct Wanted {
     pub calls: Vec<Call>,
     pub failing: Option<usize>,
+    pub failure: ErrorKind,
     pub elsewhere: Option<usize>,
+    pub open_to_others: Option<usize>,
     pub on_stream: bool,
     made: Cell<usize>,
     strange: Cell<bool>,
@@ -47,7 +55,9 @@ impl Wanted {
         Wanted {
             calls,
             failing: None,
+            failure: ErrorKind::StorageFull,
             elsewhere: None,
+            open_to_others: None,
             on_stream: false,
             made: Cell::new(0),
             strange: Cell::new(false),
@@ -62,7 +72,7 @@ impl Wanted {
             self.strange.set(true);
         }
         if self.failing == Some(number) {
-            return Err(io::Error::from(ErrorKind::StorageFull));
+            return Err(io::Error::from(self.failure));
         }
         Ok(number)
     }
@@ -123,8 +133,10 @@ impl<'a, R: Files<File = File>> Files for Noted<'a, R> {
             Call::Create
         } else if how.asks_write() {
             Call::Open
-        } else {
+        } else if path == "." {
             Call::OpenFolder
+        } else {
+            Call::OpenToRead
         };
         self.wanted.note(call)?;
         Ok(NotedFile {
@@ -175,12 +187,16 @@ impl<'a, R: Files<File = File>> Files for Noted<'a, R> {
 
 impl<'a> OpenFile for NotedFile<'a> {
     fn metadata(&self) -> io::Result<Metadata> {
-        self.wanted.note(Call::Inspect)?;
+        let number = self.wanted.note(Call::Inspect)?;
+        if self.wanted.open_to_others == Some(number) {
+            return Ok(Metadata::of_file(0));
+        }
         self.file.metadata()
     }
 
-    fn set_len(&self, _size: u64) -> io::Result<()> {
-        self.wanted.refuse()
+    fn set_len(&self, size: u64) -> io::Result<()> {
+        self.wanted.note(Call::Cut(size))?;
+        self.file.set_len(size)
     }
 
     fn sync_all(&self) -> io::Result<()> {
@@ -222,6 +238,13 @@ impl<'a> Held for NotedFile<'a> {
     fn try_hold(&self) -> Result<(), TryLockError> {
         match self.wanted.note(Call::Lock) {
             Ok(_) => self.file.try_lock(),
+            Err(why) => Err(TryLockError::Error(why)),
+        }
+    }
+
+    fn try_share(&self) -> Result<(), TryLockError> {
+        match self.wanted.note(Call::Share) {
+            Ok(_) => self.file.try_lock_shared(),
             Err(why) => Err(TryLockError::Error(why)),
         }
     }

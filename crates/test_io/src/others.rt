@@ -1,8 +1,8 @@
 //! Files that the file system of real files refuses, though they can be opened.
 
-use crate::system::{disk_refusal, fresh_refusal, scratch_refusal, tiles_refusal};
+use crate::system::{fresh_refusal, journal_refusal, scratch_refusal, tiles_refusal};
 use journal_core::HEADER;
-use mtc_files::open_tiles;
+use mtc_files::{Access, open_tiles};
 use mtc_room::RoomError;
 use std::alloc::{AllocError, Global};
 use std::fs::{self, File, Permissions};
@@ -51,6 +51,12 @@ fn put_links<R: Files<File = File>>(files: &R) -> io::Result<()> {
         "mtc_files_others/cosigner",
         "mtc_files_others/hard.tiles",
     )?;
+    put(files, "mtc_files_others/named", &[7; 8192])?;
+    fs::hard_link(
+        files,
+        "mtc_files_others/named",
+        "mtc_files_others/twice.tiles",
+    )?;
     files.symlink("cosigner", "mtc_files_others/soft.tiles")?;
     files.symlink("tiles", "mtc_files_others/tiled.tiles")?;
     files.symlink("nowhere", "mtc_files_others/dangling.tiles")
@@ -70,6 +76,7 @@ mtc_files_others/log refused
 mtc_files_others/cosigner refused
 mtc_files_others/begun refused
 mtc_files_others/hard.tiles refused
+mtc_files_others/twice.tiles refused
 mtc_files_others/soft.tiles refused
 mtc_files_others/tiled.tiles refused
 mtc_files_others/dangling.tiles refused
@@ -101,6 +108,7 @@ fn tiles_are_never_written_over_a_journal(rt: HostRuntime) -> Result<(), Fail> {
 // The same by the names of journals, of which each has its file of tiles beside it.
 const BESIDE: &str = "\
 mtc_files_others/hard refused
+mtc_files_others/twice refused
 mtc_files_others/soft refused
 mtc_files_others/tiled refused
 mtc_files_others/dangling refused
@@ -135,18 +143,32 @@ fn tiles_stand_beside_their_journal(rt: HostRuntime) -> Result<(), Fail> {
 }
 
 // Whether the file system refuses a journal with this mode.
-fn is_refused<R: Files<File = File>>(files: &R, name: &str, mode: u32) -> io::Result<bool> {
+fn is_refused<R: Files<File = File>>(
+    files: &R,
+    name: &str,
+    mode: u32,
+    access: Access,
+) -> io::Result<bool> {
     fs::set_permissions(files, name, Permissions::from_mode(mode))?;
-    Ok(disk_refusal(files, name) == FAILED)
+    Ok(journal_refusal(files, name, access) == FAILED)
 }
 
 // Whether it refuses each of the four with this mode.
-fn are_refused<R: Files<File = File>>(files: &R, mode: u32) -> io::Result<[bool; 4]> {
+fn are_refused<R: Files<File = File>>(
+    files: &R,
+    mode: u32,
+    access: Access,
+) -> io::Result<[bool; 4]> {
     Ok([
-        is_refused(files, "mtc_files_modes/cosigner", mode)?,
-        is_refused(files, "mtc_files_modes/cosigner-of-two-levels", mode)?,
-        is_refused(files, "mtc_files_modes/log", mode)?,
-        is_refused(files, "mtc_files_modes/other", mode)?,
+        is_refused(files, "mtc_files_modes/cosigner", mode, access)?,
+        is_refused(
+            files,
+            "mtc_files_modes/cosigner-of-two-levels",
+            mode,
+            access,
+        )?,
+        is_refused(files, "mtc_files_modes/log", mode, access)?,
+        is_refused(files, "mtc_files_modes/other", mode, access)?,
     ])
 }
 
@@ -177,10 +199,20 @@ fn a_cosigners_journal_is_its_owners_alone(rt: HostRuntime) -> Result<(), Fail> 
         0o600, 0o700, 0o640, 0o620, 0o610, 0o604, 0o602, 0o601, 0o666,
     ];
     for mode in modes {
-        let refused = are_refused(&rt, mode)?;
         let is_open = mode & 0o77 != 0;
-        assert!(rt; refused == [is_open, is_open, false, false], "{mode}");
+        let refused = [is_open, is_open, false, false];
+        assert!(rt;
+            are_refused(&rt, mode, Access::Write)? == refused,
+            "{mode} to write"
+        );
+        assert!(rt;
+            are_refused(&rt, mode, Access::Read)? == refused,
+            "{mode} to read"
+        );
     }
+    // Its owner may read it, and so may others.
+    assert!(rt; are_refused(&rt, 0o400, Access::Read)? == [false; 4]);
+    assert!(rt; are_refused(&rt, 0o440, Access::Read)? == [true, true, false, false]);
     fs::remove_dir_all(&rt, folder)?;
     Ok(())
 }

@@ -1,7 +1,9 @@
 //! The file system of real files.
 
 use disk_core::{Disk, FileDisk};
-use mtc_files::{FileRoom, Held, new_journal, open_journal, open_tiles};
+use mtc_files::{
+    Access, FileRoom, Held, Opened, new_journal, open_journal, open_journal_to_read, open_tiles,
+};
 use mtc_io::{Bytes, Failed, ReadError, Source, read_all};
 use mtc_room::{Cause, Room, RoomError};
 use std::alloc::Global;
@@ -16,7 +18,7 @@ fn source_refusal<R: Files>(files: &R, name: &str) -> Option<RoomError>
 where
     R::File: Held,
 {
-    let mut room = FileRoom::new(files);
+    let mut room = FileRoom::new(files, Access::Write);
     match room.source(name) {
         Ok(source) => {
             room.done(source);
@@ -31,7 +33,15 @@ pub fn disk_refusal<R: Files>(files: &R, name: &str) -> Option<RoomError>
 where
     R::File: Held,
 {
-    let mut room = FileRoom::new(files);
+    journal_refusal(files, name, Access::Write)
+}
+
+// The same of a journal that is opened so.
+pub fn journal_refusal<R: Files>(files: &R, name: &str, access: Access) -> Option<RoomError>
+where
+    R::File: Held,
+{
+    let mut room = FileRoom::new(files, access);
     match room.disk(name) {
         Ok(disk) => {
             room.keep(name, disk);
@@ -46,7 +56,7 @@ pub fn fresh_refusal<R: Files>(files: &R, name: &str) -> Option<RoomError>
 where
     R::File: Held,
 {
-    let mut room = FileRoom::new(files);
+    let mut room = FileRoom::new(files, Access::Write);
     match room.fresh(name) {
         Ok(disk) => {
             room.keep(name, disk);
@@ -56,12 +66,20 @@ where
     }
 }
 
-// The same of a file of tiles, which fails alone.
+// The same of a tile file, which only fails.
 pub fn scratch_refusal<R: Files>(files: &R, name: &str) -> Option<RoomError>
 where
     R::File: Held,
 {
-    let mut room = FileRoom::new(files);
+    beside_refusal(files, name, Access::Write)
+}
+
+// The same of a tile file that is opened so.
+pub fn beside_refusal<R: Files>(files: &R, name: &str, access: Access) -> Option<RoomError>
+where
+    R::File: Held,
+{
+    let mut room = FileRoom::new(files, access);
     match room.scratch(name) {
         Ok(disk) => {
             room.keep(name, disk);
@@ -77,6 +95,17 @@ where
     R::File: Held,
 {
     match open_journal(files, name) {
+        Ok(_device) => None,
+        Err(_) => Some(RoomError::Failed),
+    }
+}
+
+// The same of the device alone of a journal that is only read.
+pub fn read_refusal<R: Files>(files: &R, name: &str) -> Option<RoomError>
+where
+    R::File: Held,
+{
+    match open_journal_to_read(files, name) {
         Ok(_device) => None,
         Err(_) => Some(RoomError::Failed),
     }
@@ -119,7 +148,7 @@ fn read<S: Source>(alloc: Global, source: &mut S) -> Result<Bytes, ReadError> {
 
 // What a file system gives of an input file of five bytes at most.
 fn opened_bytes<R: Files<File = File>>(files: &R, alloc: Global, name: &str) -> Option<Bytes> {
-    let mut room = FileRoom::new(files);
+    let mut room = FileRoom::new(files, Access::Write);
     let mut source = room.source(name).ok()?;
     let bytes = read(alloc, &mut source);
     room.done(source);
@@ -145,18 +174,18 @@ fn opens_the_files_of_the_system(rt: HostRuntime) -> Result<(), Fail> {
 }
 
 // Whether an empty file takes five bytes.
-fn is_filled(disk: &mut FileDisk) -> bool {
+fn is_filled(disk: &mut FileDisk<Opened<File>>) -> bool {
     disk.len() == Ok(0) && disk.write_at(0, b"entry") == Ok(()) && disk.sync() == Ok(())
 }
 
 // Whether they are there, and it takes two more.
-fn is_filled_up(disk: &mut FileDisk) -> bool {
+fn is_filled_up(disk: &mut FileDisk<Opened<File>>) -> bool {
     disk.len() == Ok(5) && disk.write_at(5, b" 1") == Ok(())
 }
 
 // Whether a new file is made that takes bytes, and no second one of that name.
 fn makes<R: Files<File = File>>(files: &R, name: &str) -> bool {
-    let mut room = FileRoom::new(files);
+    let mut room = FileRoom::new(files, Access::Write);
     let Ok(mut disk) = room.fresh(name) else {
         return false;
     };
@@ -167,7 +196,7 @@ fn makes<R: Files<File = File>>(files: &R, name: &str) -> bool {
 
 // Whether the file is opened again, and takes more.
 fn opens_again<R: Files<File = File>>(files: &R, name: &str) -> bool {
-    let mut room = FileRoom::new(files);
+    let mut room = FileRoom::new(files, Access::Write);
     let Ok(mut disk) = room.disk(name) else {
         return false;
     };
@@ -262,7 +291,7 @@ fn opens<R: Files<File = File>>(files: &R, name: &str) -> bool {
 
 // Whether no other opening of a new journal succeeds while it is open.
 fn is_opened_alone<R: Files<File = File>>(files: &R, name: &str) -> bool {
-    let mut room = FileRoom::new(files);
+    let mut room = FileRoom::new(files, Access::Write);
     let Ok(disk) = room.fresh(name) else {
         return false;
     };
@@ -273,12 +302,12 @@ fn is_opened_alone<R: Files<File = File>>(files: &R, name: &str) -> bool {
 
 // Why a file system failed at a journal, and at a file of tiles, if it did.
 fn causes<R: Files<File = File>>(files: &R, name: &str) -> [Cause; 2] {
-    let mut room = FileRoom::new(files);
+    let mut room = FileRoom::new(files, Access::Write);
     if let Ok(disk) = room.disk(name) {
         room.keep(name, disk);
     }
     let of_journal = room.cause();
-    let mut room = FileRoom::new(files);
+    let mut room = FileRoom::new(files, Access::Write);
     if let Ok(disk) = room.scratch(name) {
         room.keep(name, disk);
     }
@@ -288,7 +317,7 @@ fn causes<R: Files<File = File>>(files: &R, name: &str) -> [Cause; 2] {
 // Why a file system failed at a journal that is locked, and then at a folder that it opens and
 // can't read: nothing if it doesn't open it.
 fn causes_after_lock<R: Files<File = File>>(files: &R, name: &str) -> Option<[Cause; 2]> {
-    let mut room = FileRoom::new(files);
+    let mut room = FileRoom::new(files, Access::Write);
     if let Ok(disk) = room.disk(name) {
         room.keep(name, disk);
     }
@@ -323,7 +352,7 @@ fn is_locked<R: Files<File = File>>(files: &R, name: &str) -> bool {
 
 // Whether it can't while the journal is open.
 fn is_opened_locked<R: Files<File = File>>(files: &R, name: &str) -> bool {
-    let mut room = FileRoom::new(files);
+    let mut room = FileRoom::new(files, Access::Write);
     let Ok(disk) = room.disk(name) else {
         return false;
     };
@@ -342,5 +371,82 @@ fn a_journal_is_opened_once_at_a_time(rt: HostRuntime) -> Result<(), Fail> {
     assert!(rt; is_opened_locked(&rt, name));
     assert!(rt; opens(&rt, name));
     fs::remove_file(&rt, name)?;
+    Ok(())
+}
+
+// Whether a journal and a tile file are opened so.
+fn are_opened<R: Files<File = File>>(files: &R, name: &str, access: Access) -> [bool; 2] {
+    [
+        journal_refusal(files, name, access).is_none(),
+        beside_refusal(files, name, access).is_none(),
+    ]
+}
+
+// What can be opened while one is open so: to read, and to write.
+fn opened_beside<R: Files<File = File>>(
+    files: &R,
+    name: &str,
+    access: Access,
+) -> Option<[[bool; 2]; 2]> {
+    let mut room = FileRoom::new(files, access);
+    let disk = room.disk(name).ok()?;
+    let found = [
+        are_opened(files, name, Access::Read),
+        are_opened(files, name, Access::Write),
+    ];
+    room.keep(name, disk);
+    Some(found)
+}
+
+// What of this a device that is only read does: it is read and synced, and takes no byte.
+fn is_only_read<R: Files<File = File>>(files: &R, name: &str) -> bool {
+    let mut room = FileRoom::new(files, Access::Read);
+    let Ok(mut disk) = room.disk(name) else {
+        return false;
+    };
+    let mut bytes = [0; 5];
+    let right = disk.len() == Ok(5)
+        && disk.write_at(0, b"other").is_err()
+        && disk.read_at(0, &mut bytes) == Ok(())
+        && disk.sync() == Ok(());
+    room.keep(name, disk);
+    right && &bytes == b"entry"
+}
+
+#[test]
+fn readers_open_a_journal_at_the_same_time(rt: HostRuntime) -> Result<(), Fail> {
+    let name = "mtc_file_room_share_test";
+    let _ = fs::remove_file(&rt, name);
+    assert!(rt; makes(&rt, name));
+    let (every, none) = ([true; 2], [false; 2]);
+    assert!(rt; opened_beside(&rt, name, Access::Read) == Some([every, none]));
+    assert!(rt; opened_beside(&rt, name, Access::Write) == Some([none, none]));
+    assert!(rt; is_only_read(&rt, name));
+    assert!(rt; holds(&rt, name, b"entry")?);
+    fs::remove_file(&rt, name)?;
+    Ok(())
+}
+
+// Whether a file system that only reads makes no journal, and opens none that isn't there.
+fn makes_none<R: Files<File = File>>(files: &R, name: &str) -> bool {
+    let mut room = FileRoom::new(files, Access::Read);
+    match room.fresh(name) {
+        Ok(disk) => {
+            room.keep(name, disk);
+            false
+        }
+        Err(why) => {
+            why == RoomError::Failed
+                && journal_refusal(files, name, Access::Read) == Some(RoomError::Absent)
+        }
+    }
+}
+
+#[test]
+fn a_reader_makes_no_journal(rt: HostRuntime) -> Result<(), Fail> {
+    let name = "mtc_file_room_none_test";
+    let _ = fs::remove_file(&rt, name);
+    assert!(rt; makes_none(&rt, name));
+    assert!(rt; !fs::exists(&rt, name)?);
     Ok(())
 }

@@ -10,8 +10,12 @@ use Rattle.mtc_authority.proofs.OpenLogs.{log_stores_both}
 use Rattle.mtc_authority.proofs.log_command.on_log.Goals as goal
 
 pub open_log-requires : goal.open_log-requires
-open_log-requires g c =
-    record { opened = c.requires.opened; named = c.deref.ensures ∙ c.in_ok-name.ensures }
+open_log-requires g c = record {
+  opened = c.requires.opened;
+  named = c.deref.ensures ∙ c.in_ok-name.ensures;
+  some = c.frames-frames.ensures.some;
+  few = c.frames-frames.ensures.few;
+}
 
 pub close_log-requires : goal.close_log-requires
 close_log-requires g c =
