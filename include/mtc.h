@@ -1,15 +1,32 @@
 /*
  * mtc.h: how a relying party judges certificates that a Merkle tree log has issued.
  *
- * The library is the crate mtc_c: each function keeps its contract, which is proved.
- * docs/LIBRARY.md says how to build libmtc.a and libmtc.so, and shows callers.
+ * The library is the crate mtc_c: each function keeps its contract, which is proved. What this
+ * header puts in front of them is tested alone. docs/LIBRARY.md says how to build, and shows
+ * callers.
+ *
+ * Interface: MTC_ABI is the number of what this header declares, and mtc_abi() that of the library.
+ * Compare them before any other call: a library that is loaded may be another one than was linked.
+ * A struct, a parameter or the meaning of a number that changes, and a function that goes away,
+ * give another number, and libmtc.so another name. A function or a refusal that is new gives none:
+ * take a refusal that you don't know as one, since the status alone says whether a certificate is
+ * accepted.
+ *
+ * Size: a certificate of more than MTC_MAX_CERTIFICATE bytes is MTC_TOO_LONG, and isn't read. A
+ * store has no limit. It is the caller's own file: never judge by one of strangers.
+ *
+ * Stack: a call needs at most MTC_STACK bytes, whatever the certificate. Tables in each other, of
+ * which a store needs few, take more: a store of thousands, 3 MiB.
  *
  * A caller owes: each pointer leads to as many bytes as its length says, which no one changes
  * during the call; no two buffers that the call writes lie over one another or over what it reads.
- * Where a length is 0 the pointer may be any but a null pointer, also that of a buffer to write.
  * malloc, realloc and free are of one allocator. No function is called in a signal handler, or in
  * the child of a fork of a program with threads. Threads may call at the same time, each with
  * buffers of its own.
+ *
+ * Null pointers: where a length is 0 the pointer may be null, also that of a buffer to write. Any
+ * other null pointer is MTC_BAD_CALL, and nothing is read or written. So it is for who includes
+ * this header. Who calls libmtc.so without it, as ctypes does, owes pointers that aren't null.
  */
 #ifndef MTC_H
 #define MTC_H
@@ -21,17 +38,28 @@
 extern "C" {
 #endif
 
+#define MTC_ABI 1
+#define MTC_MAX_CERTIFICATE 57344
+#define MTC_STACK 131072
+/* No name of a refusal or of a field has more bytes. */
+#define MTC_MAX_NAME 32
+
 /* What a function answers. */
 enum {
     MTC_DONE = 0,         /* the certificate is accepted; or the bytes are written */
+    MTC_BAD_CALL = 1,     /* a pointer is null, and its length isn't 0; nothing is written */
     MTC_BAD_FORM = 2,     /* the certificate or the store isn't in its form */
     MTC_REFUSED = 3,      /* the certificate is refused */
-    MTC_NO_SUCH_NAME = 4, /* the certificate has no dNSName with this number */
+    MTC_NO_SUCH_NAME = 4, /* there is no dNSName, refusal or field with this number */
     MTC_NO_MEMORY = 8,    /* memory was refused, and nothing is said of the certificate */
-    MTC_TOO_LONG = 9      /* the buffer is too short, and isn't written */
+    MTC_TOO_LONG = 9      /* the certificate has too many bytes; or the buffer is too short, and
+                             isn't written */
 };
 
-/* Why a certificate isn't accepted. After each stands what `number` then is. */
+/*
+ * Why a certificate isn't accepted. After each stands what `number` then is. mtc_refusal_name gives
+ * the name, as `mtc verify` prints it: docs/COMMANDS.md says what to do.
+ */
 enum {
     MTC_NO_REFUSAL = 0,
 
@@ -64,6 +92,9 @@ enum {
     MTC_BAD_EXTENSION = 38,
     MTC_BAD_NAME = 39,
 
+    /* the certificate, with the status MTC_TOO_LONG */
+    MTC_CERTIFICATE_TOO_LONG = 40,
+
     /* the proof in the certificate, with the status MTC_BAD_FORM */
     MTC_PROOF_SHORT = 48, /* the offset in the proof */
     MTC_PROOF_HASH_LENGTH = 49,
@@ -84,7 +115,7 @@ enum {
     MTC_TOO_FEW_COSIGNERS = 74 /* the first rule that isn't met, from 1; 0 where there is none */
 };
 
-/* The fields of a store file. */
+/* The fields of a store file. mtc_field_name gives their names. */
 enum {
     MTC_FIELD_LOG_ID = 0,
     MTC_FIELD_COSIGNER_ID = 1,
@@ -100,7 +131,7 @@ enum {
 
 /* What is judged of a certificate. */
 struct mtc_verdict {
-    uint32_t status;    /* MTC_DONE, MTC_BAD_FORM, MTC_REFUSED or MTC_NO_MEMORY */
+    uint32_t status;    /* MTC_DONE, MTC_BAD_FORM, MTC_REFUSED, MTC_NO_MEMORY or MTC_TOO_LONG */
     uint32_t refusal;   /* why it isn't accepted, or 0 */
     uint64_t number;    /* what belongs to the refusal, or 0 */
     uint64_t index;     /* the index of its entry in the log; this and what follows is 0 where it
@@ -111,20 +142,36 @@ struct mtc_verdict {
                            the store trusts the hash of the subtree itself */
 };
 
+/* The number of the library's interface: this header declares it where that is MTC_ABI. */
+uint32_t mtc_abi(void);
+
 /*
  * Judges a certificate (DER) by a store file (TOML) at a time, in seconds since
- * 1970-01-01T00:00:00Z. Writes the verdict, and answers its status. The first refusal in the order
- * of `mtc verify` is reported. MTC_DONE says nothing of whom the caller wants to reach, nor for
- * what the key may be used: compare the names (mtc_dns_name).
+ * 1970-01-01T00:00:00Z. Writes the verdict, and answers its status. MTC_TOO_LONG comes first, then
+ * the first refusal in the order of `mtc verify`. MTC_DONE says nothing of whom the caller wants to
+ * reach, nor for what the key may be used: compare the names (mtc_dns_name).
  */
 uint32_t mtc_judge(const uint8_t *cert, size_t cert_length, const uint8_t *store,
                    size_t store_length, int64_t now, struct mtc_verdict *verdict);
 
 /*
- * The calls that follow want the bytes of a certificate that mtc_judge has accepted: they
- * read it, and judge nothing. Each writes the length of what it copies out, and puts that at
- * the start of the buffer where it fits. They answer MTC_DONE, MTC_BAD_FORM where the bytes are no
- * certificate, MTC_NO_SUCH_NAME or MTC_TOO_LONG. The length is 0 where there is nothing to copy out.
+ * The calls that follow write the length of what they copy out, and put that at the start of the
+ * buffer where it fits. The length is 0 where there is nothing to copy out.
+ */
+
+/*
+ * The name of a refusal, at most MTC_MAX_NAME bytes without a zero at the end: MTC_DONE,
+ * MTC_NO_SUCH_NAME or MTC_TOO_LONG.
+ */
+uint32_t mtc_refusal_name(uint32_t refusal, uint8_t *out, size_t out_length, uint64_t *length);
+
+/* The same of a field of a store file, which is the number of MTC_MISSING and MTC_BAD_VALUE. */
+uint32_t mtc_field_name(uint64_t field, uint8_t *out, size_t out_length, uint64_t *length);
+
+/*
+ * Those that follow want the bytes of a certificate that mtc_judge has accepted: they read it, and
+ * judge nothing. They answer MTC_DONE, MTC_BAD_FORM where the bytes are no certificate or too many,
+ * MTC_NO_SUCH_NAME or MTC_TOO_LONG of the buffer.
  */
 
 /* The SubjectPublicKeyInfo of the certificate (DER). */
@@ -148,6 +195,100 @@ uint32_t mtc_entry_hash(const uint8_t *cert, size_t cert_length, uint8_t *out, s
  */
 uint32_t mtc_entry_hash_in(const uint8_t *cert, size_t cert_length, uint32_t form, uint8_t *out,
                            size_t out_length, uint64_t *length);
+
+/*
+ * What stands between a caller and the library: a null pointer with length 0 becomes that of a byte
+ * which is neither read nor written, and any other is MTC_BAD_CALL.
+ */
+static inline int mtc_lacks(const void *bytes, size_t length) { return !bytes && length; }
+
+static inline const uint8_t *mtc_read(const uint8_t *bytes) {
+    static const uint8_t none = 0;
+    return bytes ? bytes : &none;
+}
+
+static inline uint8_t *mtc_written(uint8_t *bytes) {
+    static uint8_t none;
+    return bytes ? bytes : &none;
+}
+
+static inline uint32_t mtc_safe_judge(const uint8_t *cert, size_t cert_length, const uint8_t *store,
+                                      size_t store_length, int64_t now,
+                                      struct mtc_verdict *verdict) {
+    if (mtc_lacks(cert, cert_length) || mtc_lacks(store, store_length) || !verdict)
+        return MTC_BAD_CALL;
+    return mtc_judge(mtc_read(cert), cert_length, mtc_read(store), store_length, now, verdict);
+}
+
+static inline uint32_t mtc_safe_refusal_name(uint32_t refusal, uint8_t *out, size_t out_length,
+                                             uint64_t *length) {
+    if (mtc_lacks(out, out_length) || !length)
+        return MTC_BAD_CALL;
+    return mtc_refusal_name(refusal, mtc_written(out), out_length, length);
+}
+
+static inline uint32_t mtc_safe_field_name(uint64_t field, uint8_t *out, size_t out_length,
+                                           uint64_t *length) {
+    if (mtc_lacks(out, out_length) || !length)
+        return MTC_BAD_CALL;
+    return mtc_field_name(field, mtc_written(out), out_length, length);
+}
+
+static inline uint32_t mtc_safe_public_key(const uint8_t *cert, size_t cert_length, uint8_t *out,
+                                           size_t out_length, uint64_t *length) {
+    if (mtc_lacks(cert, cert_length) || mtc_lacks(out, out_length) || !length)
+        return MTC_BAD_CALL;
+    return mtc_public_key(mtc_read(cert), cert_length, mtc_written(out), out_length, length);
+}
+
+static inline uint32_t mtc_safe_dns_name(const uint8_t *cert, size_t cert_length, uint64_t number,
+                                         uint8_t *out, size_t out_length, uint64_t *length) {
+    if (mtc_lacks(cert, cert_length) || mtc_lacks(out, out_length) || !length)
+        return MTC_BAD_CALL;
+    return mtc_dns_name(mtc_read(cert), cert_length, number, mtc_written(out), out_length, length);
+}
+
+static inline uint32_t mtc_safe_entry_hash(const uint8_t *cert, size_t cert_length, uint8_t *out,
+                                           size_t out_length, uint64_t *length) {
+    if (mtc_lacks(cert, cert_length) || mtc_lacks(out, out_length) || !length)
+        return MTC_BAD_CALL;
+    return mtc_entry_hash(mtc_read(cert), cert_length, mtc_written(out), out_length, length);
+}
+
+static inline uint32_t mtc_safe_entry_hash_in(const uint8_t *cert, size_t cert_length,
+                                              uint32_t form, uint8_t *out, size_t out_length,
+                                              uint64_t *length) {
+    if (mtc_lacks(cert, cert_length) || mtc_lacks(out, out_length) || !length)
+        return MTC_BAD_CALL;
+    return mtc_entry_hash_in(mtc_read(cert), cert_length, form, mtc_written(out), out_length,
+                             length);
+}
+
+#define mtc_judge mtc_safe_judge
+#define mtc_refusal_name mtc_safe_refusal_name
+#define mtc_field_name mtc_safe_field_name
+#define mtc_public_key mtc_safe_public_key
+#define mtc_dns_name mtc_safe_dns_name
+#define mtc_entry_hash mtc_safe_entry_hash
+#define mtc_entry_hash_in mtc_safe_entry_hash_in
+
+/*
+ * The name of a refusal or of a field as a text of C, in the caller's room: no character where the
+ * library knows none.
+ */
+static inline const char *mtc_refusal_text(uint32_t refusal, char room[MTC_MAX_NAME + 1]) {
+    uint64_t length;
+    uint32_t status = mtc_refusal_name(refusal, (uint8_t *)room, MTC_MAX_NAME, &length);
+    room[status == MTC_DONE ? length : 0] = 0;
+    return room;
+}
+
+static inline const char *mtc_field_text(uint64_t field, char room[MTC_MAX_NAME + 1]) {
+    uint64_t length;
+    uint32_t status = mtc_field_name(field, (uint8_t *)room, MTC_MAX_NAME, &length);
+    room[status == MTC_DONE ? length : 0] = 0;
+    return room;
+}
 
 #ifdef __cplusplus
 }

@@ -1,3 +1,5 @@
+pub mod Sizes
 pub mod Codes
 pub mod Verdicts
+pub mod Names
 pub mod Pieces

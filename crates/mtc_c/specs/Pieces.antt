@@ -11,15 +11,17 @@ use Rattle.log_entry.specs.EntryOf.{entry_of}
 use Rattle.log_entry.specs.declared.entry.Form.{Form}
 use Rattle.log_entry.specs.declared.entry.Form.TheVariants.{One, Two}
 use Rattle.tree_core.specs.Tree.{leaf_hash}
+use Rattle.mtc_c.specs.Sizes.{most_cert_bytes}
 
 -- Whatever is wrong with bytes that are no certificate is the status 2.
 abbrev pub read_as_cert : Result Parts CertError → Result Parts ℕ
 read_as_cert (Ok c) = Ok c
 read_as_cert (Err why) = Err 2
 
--- The certificate that these bytes are; 2 where they are none.
+-- The certificate that these bytes are; 2 where they are none, or too many.
 abbrev pub cert_in : Text → Result Parts ℕ
-cert_in bytes = read_as_cert (parts_of bytes)
+cert_in bytes =
+    if nat_le (length bytes) most_cert_bytes then read_as_cert (parts_of bytes) else Err 2
 
 -- The SubjectPublicKeyInfo of a certificate.
 abbrev pub public_key_in : Text → Result Text ℕ

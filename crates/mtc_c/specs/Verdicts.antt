@@ -25,6 +25,10 @@ refused status why = record {
   cosigners = 0;
 }
 
+-- The certificate is too long, and isn't read.
+abbrev pub too_long : Verdict
+too_long = refused 9 (40, 0)
+
 -- The cosigners that count; none where the store trusts the subtree itself.
 abbrev pub counting : By → ℕ
 counting Landmark = 0

@@ -9,6 +9,9 @@ use mtc_proof::ProofError;
 use policy_core::{Key, Refusal, StoreError};
 use tree_core::EvalError;
 
+/// A certificate that is too long to be read.
+pub(crate) const TOO_LONG_CODE: (u32, u64) = (40, 0);
+
 fn key_code(key: Key) -> u64
     ensures { result ≡ key_code key }
 {

@@ -6,22 +6,40 @@
 //! and frees it before it answers.
 #![tactic(auto)]
 
-ghost use Rattle.std.specs.Prelude.{◌≡◌};
+ghost use Rattle.std.specs.Prelude.{◌≡◌, ◌<◌, ◌≤◌, length};
+ghost use Rattle.mtc_c.specs.Names.{field_name, refusal_name};
 ghost use Rattle.mtc_c.specs.Pieces.{IsPutInBuffer, entry_hash_in, name_in, public_key_in};
-ghost use Rattle.mtc_c.specs.Verdicts.{IsVerdict};
+ghost use Rattle.mtc_c.specs.Sizes.{most_cert_bytes};
+ghost use Rattle.mtc_c.specs.Verdicts.{IsVerdict, too_long};
 
 mod codes;
+mod names;
 mod pieces;
+mod size;
+mod status;
 mod verdict;
 
+use crate::names::{field_name, refusal_name};
 use crate::pieces::{copy_out, entry_hash_of, name_of, public_key_of};
 use crate::verdict::verdict_on;
 use std::alloc::Global;
 use tree_core::{Sha, TreeHash};
 pub use verdict::Verdict;
 
+const ABI: u32 = 1;
+
+/// The number of this interface: `MTC_ABI` of the header that declares it. It changes with a struct
+/// or a parameter and with what a number means, and not where calls or refusals are added.
+#[unsafe(no_mangle)]
+pub extern "C" fn mtc_abi() -> u32
+    ensures { result ≡ 1 }
+{
+    ABI
+}
+
 /// Judges a certificate (DER) by a store file (TOML) at a time, in seconds since
-/// 1970-01-01T00:00:00Z, under SHA-256, and answers the status of the verdict that it writes.
+/// 1970-01-01T00:00:00Z, under SHA-256, and answers the status of the verdict that it writes. A
+/// certificate of more than 57,344 bytes is too long, and is never read.
 #[unsafe(no_mangle)]
 pub extern "C" fn mtc_judge(
     alloc: Global,
@@ -30,7 +48,9 @@ pub extern "C" fn mtc_judge(
     now: i64,
     verdict: &mut Verdict,
 ) -> u32
-    ensures verdict { IsVerdict ⟦<Sha as TreeHash>⟧.hash cert.now store.now now verdict.new }
+    ensures long { most_cert_bytes < length cert.now → verdict.new ≡ too_long }
+    ensures judged { length cert.now ≤ most_cert_bytes
+        → IsVerdict ⟦<Sha as TreeHash>⟧.hash cert.now store.now now verdict.new }
     ensures status { result ≡ verdict.new.status }
 {
     *verdict = verdict_on(alloc, cert, store, now);
@@ -79,6 +99,32 @@ pub extern "C" fn mtc_entry_hash_in(cert: &[u8], form: u32, out: &mut [u8], leng
         length.new result }
 {
     put_entry_hash(cert, form, out, length)
+}
+
+/// Writes the name of a refusal into a buffer, as `mtc verify` prints it, and its length. 4 where
+/// the number is that of no refusal.
+#[unsafe(no_mangle)]
+pub extern "C" fn mtc_refusal_name(refusal: u32, out: &mut [u8], length: &mut u64) -> u32
+    ensures exact { IsPutInBuffer (refusal_name refusal) out.old out.new length.new result }
+    ensures short { length.new ≤ 32 }
+{
+    match refusal_name(refusal) {
+        Ok(name) => copy_out(name, out, length),
+        Err(status) => nothing(status, length),
+    }
+}
+
+/// Writes the name of a field of a store file into a buffer, as `mtc verify` prints it, and its
+/// length. 4 where the number is that of no field.
+#[unsafe(no_mangle)]
+pub extern "C" fn mtc_field_name(field: u64, out: &mut [u8], length: &mut u64) -> u32
+    ensures exact { IsPutInBuffer (field_name field) out.old out.new length.new result }
+    ensures short { length.new ≤ 32 }
+{
+    match field_name(field) {
+        Ok(name) => copy_out(name, out, length),
+        Err(status) => nothing(status, length),
+    }
 }
 
 // Writes the hash of the entry in the form with this number.

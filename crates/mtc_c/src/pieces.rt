@@ -7,17 +7,11 @@ ghost use Rattle.cert_fields.specs.Views.{parts};
 ghost use Rattle.mtc_c.specs.Pieces.{IsPutInBuffer, cert_in, entry_hash_in, form_numbered};
 ghost use Rattle.mtc_c.specs.Pieces.{name_in, public_key_in};
 
+use crate::size::is_too_long;
+use crate::status::{BAD_FORM, DONE, NO_SUCH_NAME, TOO_LONG};
 use cert_fields::{Cert, DnsNames, dns_names, parse};
 use log_entry::{Form, entry_hash};
 use tree_core::TreeHash;
-
-const DONE: u32 = 0;
-
-const BAD_FORM: u32 = 2;
-
-const NO_SUCH_NAME: u32 = 4;
-
-const TOO_LONG: u32 = 9;
 
 /// Puts bytes at the start of a buffer, if they fit, and answers how many they are.
 pub(crate) fn copy_out(piece: &[u8], out: &mut [u8], length: &mut u64) -> u32
@@ -31,10 +25,13 @@ pub(crate) fn copy_out(piece: &[u8], out: &mut [u8], length: &mut u64) -> u32
     DONE
 }
 
-// The certificate that these bytes are.
+// The certificate that these bytes are, if they aren't too many.
 fn cert_of(bytes: &[u8]) -> Result<Cert<'_>, u32>
     ensures { Gives (λ c. parts c) result (cert_in bytes.now) }
 {
+    if is_too_long(bytes) {
+        return Err(BAD_FORM);
+    }
     match parse(bytes) {
         Ok(cert) => Ok(cert),
         Err(_) => Err(BAD_FORM),

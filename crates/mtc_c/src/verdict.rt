@@ -1,28 +1,23 @@
 //! The verdict on a certificate.
 
-ghost use Rattle.std.specs.Prelude.{◌≡◌, Ok};
-ghost use Rattle.mtc_c.specs.Verdicts.{IsVerdict, refused, verdict_of};
+ghost use Rattle.std.specs.Prelude.{◌≡◌, ◌<◌, ◌≤◌, length, Ok};
+ghost use Rattle.mtc_c.specs.Sizes.{most_cert_bytes};
+ghost use Rattle.mtc_c.specs.Verdicts.{IsVerdict, refused, too_long, verdict_of};
 
-use crate::codes::{cert_code, proof_code, refusal_code, store_code};
+use crate::codes::{TOO_LONG_CODE, cert_code, proof_code, refusal_code, store_code};
+use crate::size::is_too_long;
+use crate::status::{BAD_FORM, DONE, NO_MEMORY, REFUSED, TOO_LONG};
 use policy_core::{Accepted, By, Refusal, StoreError, ValidStore};
 use relying_party::judge;
 use std::alloc::Global;
 use tree_core::{Sha, TreeHash};
-
-const ACCEPTED: u32 = 0;
-
-const BAD_FORM: u32 = 2;
-
-const REFUSED: u32 = 3;
-
-const NO_MEMORY: u32 = 8;
 
 /// The verdict on a certificate by a store.
 #[repr(C)]
 #[derive(Clone, Copy, Debug, PartialEq, Eq)]
 pub struct Verdict {
     /// 0 where the certificate is accepted, 2 where it or the store isn't in its form, 3 where it
-    /// is refused, 8 where memory is refused.
+    /// is refused, 8 where memory is refused, 9 where the certificate is too long.
     pub status: u32,
     /// Why it isn't accepted, by the number that the header names, or 0.
     pub refusal: u32,
@@ -63,7 +58,7 @@ fn accepted(known: &Accepted) -> Verdict
         By::Cosigners(set) => set,
     };
     Verdict {
-        status: ACCEPTED,
+        status: DONE,
         refusal: 0,
         number: 0,
         index: known.index,
@@ -84,10 +79,16 @@ fn verdict_of(judged: Result<Accepted, Refusal>) -> Verdict
     }
 }
 
-/// The verdict on a certificate by a store file at a time.
+/// The verdict on a certificate by a store file at a time. Of one that is too long nothing is read,
+/// nor of the store.
 pub(crate) fn verdict_on(alloc: Global, cert: &[u8], store: &[u8], now: i64) -> Verdict
-    ensures { IsVerdict ⟦<Sha as TreeHash>⟧.hash cert.now store.now now result }
+    ensures long { most_cert_bytes < length cert.now → result ≡ too_long }
+    ensures judged { length cert.now ≤ most_cert_bytes
+        → IsVerdict ⟦<Sha as TreeHash>⟧.hash cert.now store.now now result }
 {
+    if is_too_long(cert) {
+        return refused(TOO_LONG, TOO_LONG_CODE);
+    }
     match ValidStore::read(alloc, store) {
         Ok(trusted) => verdict_of(judge::<Sha>(cert, &trusted, now)),
         Err(StoreError::Memory) => refused(NO_MEMORY, (0, 0)),
