@@ -1,7 +1,9 @@
 #!/bin/bash
-# Puts the C library into a folder: libmtc.a, and libmtc.so for programs that load it. The crate mtc_c is proved and built
-# first, where that hasn't been done or a source was changed since. It needs ar, ld, objcopy and cc. Of the names of
-# the parts only those of mtc.h are seen outside: another library of the kit in the same program has the others too.
+# Puts the C library into a folder: libmtc.a; and libmtc.so.1 for programs that load it, with the link libmtc.so by which they are
+# linked. The number in the name is MTC_ABI of include/mtc.h. The crate mtc_c is proved and built first, where that hasn't been done
+# or a source was changed since. The same archive of that crate and the same tools give the same bytes. It needs ar, ld, objcopy and
+# cc. Of the names of the parts only those of mtc.h are seen outside: another library of the kit in the same program has the others
+# too.
 # Usage: tools/c_library.sh FOLDER
 set -eu
 root=$(dirname "$(dirname "$(readlink -f "${BASH_SOURCE[0]}")")")
@@ -14,11 +16,17 @@ if [ ! -f "$archive" ] ||
 fi
 # What calls malloc, realloc and free; it is the kit's.
 heap=$(dirname "$(rt doc | head -n 1)")/c/liblibc_c.a
+number=$(sed -n 's/^#define MTC_ABI //p' "$root/include/mtc.h")
 work=$(mktemp -d)
 trap 'rm -rf "$work"' EXIT
-(cd "$work" && ar x "$archive" && ar x "$heap")
+cd "$work"
+ar x "$archive"
+ar x "$heap"
+# In one order everywhere, and by names that don't say where it was.
+LC_ALL=C
+ld -r -o libmtc.o ./*.o
+objcopy --wildcard --keep-global-symbol='mtc_*' libmtc.o
 rm -f "$folder/libmtc.a"
-ld -r -o "$work/libmtc.o" "$work"/*.o
-objcopy --wildcard --keep-global-symbol='mtc_*' "$work/libmtc.o"
-ar rcs "$folder/libmtc.a" "$work/libmtc.o"
-cc -shared -o "$folder/libmtc.so" -Wl,-soname,libmtc.so -Wl,-z,defs "$work/libmtc.o"
+ar rcsD "$folder/libmtc.a" libmtc.o
+cc -shared -o "$folder/libmtc.so.$number" -Wl,-soname,"libmtc.so.$number" -Wl,-z,defs -Wl,-z,now -Wl,--build-id=none libmtc.o
+ln -sf "libmtc.so.$number" "$folder/libmtc.so"
