@@ -9,7 +9,9 @@ import re
 import sys
 from functools import cache
 
-from checks import ledger
+from checks import edited, ledger
+from checks.citations import below
+from checks.definitions import TOKEN, declared, imports_of, module_of, sign_of
 from checks.sources import CLAUSE, FUNCTION, ROOT, after_braces, after_head, crates
 
 # The sources in which they stand.
@@ -54,74 +56,6 @@ STANDARDS = {
     "TOML and RFC 4648": ("toml_fields",),
 }
 
-USE = re.compile(r"^\s*(?:pub |ghost )*(?:use|open) Rattle\.([\w.]+)\.\{([^}]*)\};?", re.M)
-HEAD = re.compile(r"^ *(abbrev|unfoldable|opaque|(?:pub )?(?:record|data))(?: pub)? +([^\s:({]+)")
-TOKEN = re.compile(r"[^\s(){}\[\].,;∷]+|∷")
-
-
-def imports_of(text):
-    """Where each name comes from: the module, and its name there."""
-    found = {}
-    for match in USE.finditer(text):
-        for item in match.group(2).split(","):
-            there, _, here = item.strip().partition(" as ")
-            if there:
-                found[(here or there).strip()] = (match.group(1), there)
-    return found
-
-
-def sign_of(name):
-    """How an operator is written where it is used."""
-    if "◌" not in name:
-        return name
-    return next((part for part in name.split("◌") if part), name)
-
-
-class Module:
-    """A file of specs/, cut into its definitions."""
-
-    def __init__(self, path):
-        self.path = path
-        # the definitions, and the one to which each of their names and constructors belongs
-        self.bodies, self.owners = {}, {}
-        text = path.read_text()
-        self.imports = {sign_of(name): origin for name, origin in imports_of(text).items()}
-        name, lines = None, text.split("\n")
-        for line in lines:
-            if line.strip().startswith("--") or line.startswith(("use ", "open ", "module ", "infix", "import ")):
-                if not line.strip().startswith("--"):
-                    name = None
-                continue
-            match = HEAD.match(line)
-            if match:
-                kind, name = match.groups()
-                self.bodies[name] = []
-                self.owners[sign_of(name)] = name
-            if name and line.strip():
-                self.bodies[name].append(line)
-                inner = re.match(r"^ +(?:pub )?([^\s:(){}=]+) *:", line)
-                if inner and not match and kind.endswith("data"):
-                    self.owners.setdefault(inner.group(1), name)
-
-    def names_in(self, text):
-        """The definitions that a text names, as (module, name); the module is a file or a module of the kit."""
-        for token in set(TOKEN.findall(text)):
-            if token in self.imports:
-                yield self.imports[token]
-            elif token in self.owners:
-                yield None, self.owners[token]
-
-
-@cache
-def module_of(dotted):
-    """The file of a module of this repository, or nothing where it is the kit's."""
-    crate, _, rest = dotted.partition(".")
-    if rest.startswith("specs.") and not rest.startswith("specs.declared."):
-        path = ROOT / "crates" / crate / "specs" / (rest[len("specs."):].replace(".", "/") + ".antt")
-        if path.exists():
-            return Module(path)
-    return None
-
 
 def contracts(functions):
     """The contracts of these public functions, each with the imports of its file."""
@@ -149,12 +83,6 @@ def rules():
         imports = {sign_of(name): origin for name, origin in imports_of(text).items()}
         found |= {definition_of(*imports[token]) for token in set(TOKEN.findall(bare)) if token in imports}
     return sorted(found - {None})
-
-
-def declared(dotted):
-    """The crate and the name of a type of the code, from the module in which contracts see it."""
-    crate, _, place = dotted.partition(".specs.declared.")
-    return crate, place.removesuffix(".TheVariants").split(".")[-1]
 
 
 def named_by(functions):
@@ -312,14 +240,29 @@ def kit_rows():
         yield f"| `{dotted}` | {names} |"
 
 
+WAYS = {"search": "By the search", "hand": "By a proof", "either": "One of these"}
+
+
 def edit_rows():
-    """The edits of each crate: and how many were refused in which way at their last try."""
-    found = ledger.lines()
-    yield from ("| Crate | Edits | By the search | By a proof | Wrong behaviours |", "|---|---|---|---|---|")
-    for name in ledger.with_edits():
-        edits = [edit.stem for edit in ledger.edits_of(name)]
-        tried = found.get(name, "").split()[4:]
-        yield f"| `{name}` | {len(edits)} | {' | '.join(tried or ['', ''])} | {', '.join(map(spoken, edits))} |"
+    """The edits of each crate: how many were refused in which way against what stands now, and how many wait for their try."""
+    force = ledger.in_force()
+    yield from (f"| Crate | Edits | {' | '.join(WAYS.values())} | By a public clause | Wait | Wrong behaviours |", "|---" * 8 + "|")
+    for name in edited.with_edits():
+        names = [edit.stem for edit in edited.edits_of(name)]
+        mine = [force[f"{name}/{one}"] for one in names if f"{name}/{one}" in force]
+        counts = [sum(one.way == way for one in mine) for way in WAYS]
+        counts += [sum(one.clause == "public" for one in mine), len(names) - len(mine)]
+        yield f"| `{name}` | {len(names)} | {' | '.join(map(str, counts))} | {', '.join(map(spoken, names))} |"
+
+
+def edits_summary():
+    """What BELIEFS says of all edits."""
+    force = list(ledger.in_force().values())
+    ways = [sum(one.way == way for one in force) for way in WAYS]
+    kinds = [sum(one.clause == kind for one in force) for kind in ("public", "private", "-")]
+    return (f"There are {len(ledger.edits())} edits. Of these {len(ledger.waiting())} wait for their try, and {len(force)} are refused: "
+            f"{ways[0]} by the search, {ways[1]} by a proof by hand, {ways[2]} by one of the two; {kinds[0]} by a public clause, {kinds[1]} "
+            f"by a private one, {kinds[2]} by one of the two.")
 
 
 def spoken(name):
@@ -334,8 +277,9 @@ PARTS = (
     ("The laws of what is printed", "What they name themselves.", lambda: first_rows(PRINTS)),
     ("The laws of mirrors", "What they name themselves.", lambda: first_rows(MIRRORS)),
     ("Words of the kit", "The definitions of the kit that count.", kit_rows),
-    ("Edits by crate", "Wrong programs that are refused. The middle columns say how many of a crate's edits the search for proofs refused, "
-     "and how many a proof by hand that fits no longer.", edit_rows),
+    ("Edits by crate", "Wrong programs that are refused, or wait for their try. The columns count the edits of a crate that the search for proofs "
+     "refused, those that a proof by hand refused since it fits no longer, those of which it isn't known which of the two it was, of all "
+     "these the ones that a public clause is known to have refused, and those that wait.", edit_rows),
 )
 
 
@@ -346,7 +290,7 @@ def anchor(title):
 def page(mark):
     """The page TRUSTED."""
     lines = ["# What has to be trusted", "", mark, "",
-             "The definitions on which the statements rest, counted, and the edits that are refused. [BELIEFS](../BELIEFS.md) says how "
+             "The definitions on which the statements rest, counted, and the edits. [BELIEFS](../BELIEFS.md) says how "
              "they are counted, and what else has to be trusted.", ""]
     lines += [f"- [{title}](#{anchor(title)})" for title, _, _ in PARTS]
     for title, says, rows in PARTS:
@@ -370,7 +314,7 @@ def contract_lines(text):
 def code_lines():
     """The lines of code of the program, without comments, imports for contracts, and contracts."""
     count = 0
-    for crate in [crate for crate in crates() if crate.name in {*ledger.below("mtc_main"), "mtc_main"}]:
+    for crate in [crate for crate in crates() if crate.name in {*below("mtc_main"), "mtc_main"}]:
         for file in crate.files:
             bare = re.sub(r"^[ \t]*(?:pub )?ghost use [^;]*;", lambda match: "\n" * match.group().count("\n"), file.bare, flags=re.M)
             contracts_at = contract_lines(bare)

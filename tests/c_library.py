@@ -1,11 +1,13 @@
 #!/usr/bin/env python3
 """Compares what the C library says of certificates, by calls from Python, C and Go, with what the readers of tests/reference say.
 
-The rows are those of tests/hostile_files.py for `verify`. Refusals and fields have the names of include/mtc.h. The calls are made
-one after the other, and then by eight threads at once. Of a certificate that is accepted, key, names and the entry's hash are
-compared too, in a buffer that is just long enough, and in one that is too short. With a number of rounds the certificates and
-stores of the rows are changed at random, so many of them. Where there is no C compiler all is left out, and
-where there is no Go compiler that part. Usage: tests/c_library.py [ROUNDS]
+The rows are those of tests/hostile_files.py for `verify`, and as many again that are changed at random: ROUNDS of them, by the number of
+the day since 1970 in UTC, which the line says. Refusals and fields have the names of include/mtc.h. The calls are made one after the
+other, then by eight threads at once, and by a program of C in threads that have no more stack than the header says, also of the largest
+certificates. Of a certificate that is accepted, key, names and the entry's hash are compared too, in a buffer that is just long enough,
+and in one that is too short. Names of refusals, null pointers, the interface's number, what the callers of examples/c say of bad words
+and out of memory, and the library in a release are tried. Where there is no C compiler all is left out, and where there is no Go
+compiler that part. Usage: tests/c_library.py [ROUNDS [DAY]]
 """
 
 import ctypes
@@ -16,10 +18,13 @@ import re
 import shutil
 import subprocess
 import sys
+import tarfile
 import tempfile
+import time
 from concurrent.futures import ThreadPoolExecutor
 from pathlib import Path
 
+from callers import largest, programs
 from hostile import judgements
 from reference import certificate, entry, judging, merkle, proof, store
 
@@ -28,10 +33,14 @@ HEADER = ROOT / "include/mtc.h"
 # Programs of C, Python and Go judge one row of so many.
 EACH = 1 if os.environ.get("MTC_ALL") == "1" else 40
 THREADS = 8
+ROUNDS = 2000
 # What `verify` prints for a name of the header, where it isn't the name alone.
 PRINTED_AS = {"ProofShort": "Short", "ProofHashLength": "HashLength", "ProofTrailing": "Trailing", "ProofEmptyId": "EmptyId",
-           "BadSubtree": "ProofShape BadSubtree", "Outside": "ProofShape Outside", "WrongLength": "ProofShape WrongLength"}
+           "BadSubtree": "ProofShape BadSubtree", "Outside": "ProofShape Outside", "WrongLength": "ProofShape WrongLength",
+           "CertificateTooLong": "TooLong"}
 WITH_NUMBER = {"ProofShort", "ProofEmptyId", "TooFewCosigners"}
+# What is said of a certificate that has too many bytes, as of any file of a command.
+TOO_LONG = [(9, b"", b"mtc: verify: c: TooLong\n")]
 
 
 def header_names():
@@ -41,6 +50,11 @@ def header_names():
         lines = re.findall(r"MTC_(?:FIELD_)?([A-Z_]+) = (\d+)", block)
         found.append({int(number): "".join(word.capitalize() for word in name.split("_")) for name, number in lines})
     return found
+
+
+def header_number(name):
+    """What a name of the header is defined as."""
+    return int(re.search(rf"^#define {name} (\d+)$", HEADER.read_text(), re.M)[1])
 
 
 class Verdict(ctypes.Structure):
@@ -56,6 +70,8 @@ class Verdict(ctypes.Structure):
             return [(0, f"accepted {self.index}\n".encode(), b"")]
         if self.status == 8:
             return [(8, b"", b"")]
+        if self.status == 9:
+            return TOO_LONG
         reason = refusals[self.refusal]
         words = PRINTED_AS.get(reason, reason)
         if self.refusal in (3, 4):
@@ -80,12 +96,21 @@ class Library:
         assert status == verdict.status
         return verdict
 
-    def piece(self, call, cert, capacity, *words):
+    def copied(self, call, capacity, *words):
         """What a call copies into so many bytes: its answer, the length, and the buffer."""
         buffer, length = ctypes.create_string_buffer(b"\xaa" * (capacity + 1), capacity + 1), ctypes.c_uint64(7)
-        status = getattr(self.calls, call)(cert, ctypes.c_size_t(len(cert)), *words, buffer, ctypes.c_size_t(capacity),
-                                           ctypes.byref(length))
+        status = getattr(self.calls, call)(*words, buffer, ctypes.c_size_t(capacity), ctypes.byref(length))
         return status, length.value, buffer.raw
+
+    def piece(self, call, cert, capacity, *words):
+        """What a call copies of a certificate."""
+        return self.copied(call, capacity, cert, ctypes.c_size_t(len(cert)), *words)
+
+    def name(self, call, number):
+        """The name of a refusal or of a field, or nothing."""
+        kind = ctypes.c_uint32 if call == "mtc_refusal_name" else ctypes.c_uint64
+        status, length, room = self.copied(call, header_number("MTC_MAX_NAME"), kind(number))
+        return room[:length].decode() if status == 0 else ""
 
 
 HEADER_SAYS = """#include "mtc.h"
@@ -100,6 +125,9 @@ copy_out *const hash = mtc_entry_hash;
 copy_out_form *const hash_in = mtc_entry_hash_in;
 copy_out_one *const name = mtc_dns_name;
 judge *const judges = mtc_judge;
+uint32_t (*const abi)(void) = mtc_abi;
+uint32_t (*const refusal)(uint32_t, uint8_t *, size_t, uint64_t *) = mtc_refusal_name;
+uint32_t (*const field)(uint64_t, uint8_t *, size_t, uint64_t *) = mtc_field_name;
 """
 
 
@@ -108,9 +136,34 @@ def wrong_header():
     fields = "".join(f'_Static_assert(offsetof(struct mtc_verdict, {name}) == {getattr(Verdict, name).offset}, "{name}");\n'
                      f'_Static_assert(sizeof ((struct mtc_verdict *)0)->{name} == {getattr(Verdict, name).size}, "{name}");\n'
                      for name, _ in Verdict._fields_)
-    tried = subprocess.run(["cc", "-std=c11", "-Wall", "-Wextra", "-Werror", "-fsyntax-only", f"-I{HEADER.parent}", "-xc", "-"],
-                           input=HEADER_SAYS.format(fields, ctypes.sizeof(Verdict)), capture_output=True, text=True)
+    tried = subprocess.run([*programs.COMPILE, "-fsyntax-only", "-xc", "-"], input=HEADER_SAYS.format(fields, ctypes.sizeof(Verdict)),
+                           capture_output=True, text=True)
     return tried.stderr.splitlines()
+
+
+def wrong_interface(library, shared):
+    """How the number of the interface differs: that of the header, that of the library, and that in the name by which it is loaded."""
+    said, number = library.calls.mtc_abi(), header_number("MTC_ABI")
+    if said != number:
+        yield f"mtc_abi: {said} in place of {number}"
+    names = re.findall(r"SONAME\s+(\S+)", subprocess.run(["objdump", "-p", shared], capture_output=True, text=True).stdout)
+    if names != [f"libmtc.so.{number}"] or os.readlink(shared) != names[0]:
+        yield f"{names}, and a link to {os.readlink(shared)}"
+
+
+def wrong_names(library, names):
+    """How names of refusals and of fields differ from those that `verify` prints."""
+    _, refusals, fields = names
+    for call, known in (("mtc_refusal_name", refusals), ("mtc_field_name", fields)):
+        kind = ctypes.c_uint32 if call == "mtc_refusal_name" else ctypes.c_uint64
+        for number in (*range(300), (1 << 32) - 1):
+            name = known.get(number, "NoRefusal")
+            word = "" if name == "NoRefusal" else PRINTED_AS.get(name, name)
+            size, room = len(word), word.encode() + b"\xaa"
+            wanted = [(0, size, room), (0, size, room + b"\xaa"), (9, size, b"\xaa" * size)] if size else [(4, 0, b"\xaa")]
+            found = [library.copied(call, size + more, kind(number)) for more in (0, 1, -1)[:len(wanted)]]
+            if found != wanted:
+                yield f"{call} {number}: {found} in place of {wanted}"
 
 
 def dns_names(read):
@@ -162,10 +215,15 @@ def counting(cert, known):
     return sum(1 << place for place in places if judging.has_signed(*known.cosigners[place], known, found, node))
 
 
+def wanted(row):
+    """What is to be said of a row."""
+    return TOO_LONG if len(row[0]) > header_number("MTC_MAX_CERTIFICATE") else judgements.wanted(*row)
+
+
 def wrong_row(library, names, row):
     """How the verdict on a row differs from what the readers say."""
     cert, known, now = row
-    asked, verdict = judgements.wanted(*row), library.judge(*row)
+    asked, verdict = wanted(row), library.judge(*row)
     if verdict.printed(names) != asked:
         yield f"{verdict.printed(names)} in place of {asked}"
     elif verdict.status == 0:
@@ -175,7 +233,7 @@ def wrong_row(library, names, row):
         yield from wrong_pieces(library, cert)
     elif any((verdict.index, verdict.start, verdict.end, verdict.cosigners)):
         yield f"{bytes(verdict).hex()}: something of a certificate that isn't accepted"
-    elif 16 <= verdict.refusal < 48:
+    elif 16 <= verdict.refusal < 48 or verdict.status == 9:
         calls = (("mtc_public_key", ()), ("mtc_entry_hash", ()), ("mtc_entry_hash_in", (ctypes.c_uint32(1),)),
                  ("mtc_dns_name", (ctypes.c_uint64(0),)))
         for call, words in calls:
@@ -186,7 +244,7 @@ def wrong_row(library, names, row):
 def is_newer_toml(library, names, row):
     """Whether Python's reader, which knows TOML 1.0, refuses a store that the library reads, which knows 1.1."""
     not_toml = b"mtc: verify: store: NotToml\n"
-    return judgements.wanted(*row)[0][2] == not_toml != library.judge(*row).printed(names)[0][2]
+    return wanted(row)[0][2] == not_toml != library.judge(*row).printed(names)[0][2]
 
 
 def rows():
@@ -194,15 +252,15 @@ def rows():
     return [row for kind, _, _ in judgements.KINDS for row in kind()]
 
 
-def changed(row):
+def changed(draws, row):
     """A row with one to three bytes of the certificate or of the store that are others, dropped or doubled."""
-    files = [bytearray(text) for text in row[:2]]
-    for _ in range(random.randint(1, 3)):
-        text = random.choice(files)
-        at = random.randrange(len(text) + 1)
-        others = [b"", random.randbytes(1), random.randbytes(2), bytes(text[at:at + 2])]
-        text[at:at + random.randint(0, 2)] = random.choice(others)
-    return bytes(files[0]), bytes(files[1]), row[2]
+    texts = [bytearray(text) for text in row[:2]]
+    for _ in range(draws.randint(1, 3)):
+        text = draws.choice(texts)
+        at = draws.randrange(len(text) + 1)
+        others = [b"", draws.randbytes(1), draws.randbytes(2), bytes(text[at:at + 2])]
+        text[at:at + draws.randint(0, 2)] = draws.choice(others)
+    return bytes(texts[0]), bytes(texts[1]), row[2]
 
 
 def answer_of(command, row, folder):
@@ -214,11 +272,13 @@ def answer_of(command, row, folder):
     return ended.returncode, ended.stdout
 
 
-def line_of(verdict):
+def line_of(library, verdict):
     """What the example programs print of a verdict."""
     if verdict.status == 0:
         return 0, f"accepted {verdict.index}\n"
-    return verdict.status, f"not accepted: {verdict.refusal} {verdict.number}\n"
+    name = library.name("mtc_refusal_name", verdict.refusal)
+    beside = library.name("mtc_field_name", verdict.number) if name in ("Missing", "BadValue") else verdict.number
+    return verdict.status, f"not accepted: {name} {beside}\n"
 
 
 def report(what, wrong, note=""):
@@ -227,57 +287,101 @@ def report(what, wrong, note=""):
     return bool(wrong)
 
 
-def callers(folder, archive, shared):
-    """The programs that call the library, with their words; None where there is no compiler."""
-    program = Path(folder, "judge")
-    subprocess.run(["cc", "-std=c11", "-Wall", "-Wextra", "-Werror", "-O2", f"-I{ROOT}/include", ROOT / "examples/c/judge.c",
-                    archive, "-o", program], check=True)
-    yield "C", [program]
-    yield "Python", [sys.executable, ROOT / "examples/c/judge.py", shared]
-    if not shutil.which("go"):
-        yield "Go", None
-        return
-    shutil.copytree(ROOT / "examples/c/go", Path(folder, "go"))
-    environment = {"CGO_CFLAGS": f"-I{ROOT}/include", "CGO_LDFLAGS": str(archive), "CGO_ENABLED": "1"}
-    subprocess.run(["go", "build", "-o", Path(folder, "judge_go"), "."], cwd=Path(folder, "go"), check=True,
-                   env={**os.environ, **environment})
-    yield "Go", [Path(folder, "judge_go")]
+def wrong_in_threads(library, folder, archive, table):
+    """How verdicts differ that are found in threads of little stack. One of them may end the process."""
+    ended, lines = programs.in_threads(folder, archive, table)
+    alone = [" ".join(str(getattr(verdict, name)) for name, _ in Verdict._fields_) for verdict in (library.judge(*row) for row in table)]
+    if (ended, len(lines)) != (0, len(table)):
+        yield f"status {ended} after {len(lines)} of {len(table)}"
+    yield from (f"{said} in place of {asked}" for said, asked in zip(lines, alone) if said != asked)
+
+
+def wrong_twice(folder, archive, shared):
+    """How the files differ that are made again in another folder."""
+    again = folder / "again"
+    again.mkdir()
+    subprocess.run([ROOT / "tools/c_library.sh", again], check=True, env={**os.environ, "TZ": "Asia/Tokyo"})
+    yield from (f"{one.name}: other bytes" for one in (archive, shared) if one.read_bytes() != (again / one.name).read_bytes())
+
+
+def wrong_release(folder):
+    """How what a release says of the library, in its README, does when it is unpacked and that is run."""
+    out, line, program = folder / "mtc.tar.gz", "rt: 1 passed, 0 failed", "/bin/true"
+    subprocess.run([sys.executable, ROOT / "tools/release.py", out, line, "--program", program, "--library", folder, "--kit", "a kit"],
+                   check=True)
+    with tarfile.open(out) as tar:
+        top = tar.getmembers()[0].name.split("/")[0]
+        tar.extractall(folder, filter="data")
+    text = (folder / top / "README").read_text()
+    steps = re.findall(r"^    ((?:export PKG_CONFIG_PATH=|cc |\./judge ).*)$", text, re.M)
+    ended = subprocess.run(["sh", "-euc", "\n".join(steps)], cwd=folder / top, capture_output=True, text=True)
+    if (len(steps), ended.returncode, ended.stdout) != (3, 0, "accepted 1\n"):
+        yield f"{steps}: {ended}"
+
+
+def check_calls(library, names, table):
+    """The checks that Python makes by calls of the shared object."""
+    wrong = [one for row in table for one in wrong_row(library, names, row)]
+    status = report("the verdicts on the rows of verify, called from Python", wrong, f": {len(table)}")
+    two_names = (ROOT / "examples/mail.cert").read_bytes()
+    status |= report("the parts of a certificate of two names", list(wrong_pieces(library, two_names)))
+    with ThreadPoolExecutor(THREADS) as threads:
+        at_once = list(threads.map(lambda row: bytes(library.judge(*row)).hex(), table * THREADS))
+    alone = [bytes(library.judge(*row)).hex() for row in table] * THREADS
+    return status | report(f"{THREADS} threads call at once", [f"{a} in place of {b}" for a, b in zip(at_once, alone) if a != b])
+
+
+def check_programs(library, folder, archive, shared, table):
+    """The checks of programs that call the library."""
+    status, some = False, table[::EACH]
+    for language, command in programs.examples(folder, archive, shared):
+        if command is None:
+            print(f"left out: c_library: {language}: there is no compiler")
+            continue
+        wrong = [f"{said} in place of {asked}" for row in some
+                 if (said := answer_of(command, row, folder)) != (asked := line_of(library, library.judge(*row)))]
+        status |= report(f"a program of {language} judges one row of {EACH} likewise", wrong, f": {len(some)}")
+        status |= report(f"a program of {language} refuses bad words", list(programs.wrong_words(command)))
+    wrong = list(programs.wrong_libraries(folder, header_number("MTC_ABI")))
+    return status | report("another interface, no library and no memory are refused by name", wrong)
+
+
+def check_random(library, names, table, rounds, day):
+    """Rows that are changed at random."""
+    draws = random.Random(day)
+    tried = [changed(draws, draws.choice(table)) for _ in range(rounds)]
+    newer = [row for row in tried if is_newer_toml(library, names, row)]
+    wrong = [one for row in tried if row not in newer for one in wrong_row(library, names, row)]
+    wrong += [f"{len(newer)} stores that the reader can't read"] * (len(newer) > max(1, rounds // 1000))
+    return report("rows that are changed at random", wrong, f": {rounds}, without {len(newer)} of TOML 1.1, of day {day}")
 
 
 def main(words):
-    with tempfile.TemporaryDirectory() as folder:
-        archive, shared = Path(folder, "libmtc.a"), Path(folder, "libmtc.so")
-        for tool in ("ar", "ld", "objcopy", "cc"):
+    rounds, day = [int(word) for word in words] + [ROUNDS, int(time.time() // 86400)][len(words):]
+    with tempfile.TemporaryDirectory() as name:
+        folder = Path(name)
+        archive, shared = folder / "libmtc.a", folder / "libmtc.so"
+        for tool in ("ar", "ld", "objcopy", "objdump", "cc"):
             if not shutil.which(tool):
                 print(f"left out: c_library: there is no {tool}")
                 return 0
         if subprocess.run([ROOT / "tools/c_library.sh", folder]).returncode:
             return 70
-        library, names, table, status = Library(shared), header_names(), rows(), False
-        status |= report("the struct and the functions of mtc.h, by a C compiler", wrong_header())
-        wrong = [one for row in table for one in wrong_row(library, names, row)]
-        status |= report("the verdicts on the rows of verify, called from Python", wrong, f": {len(table)}")
-        two_names = (ROOT / "examples/mail.cert").read_bytes()
-        status |= report("the parts of a certificate of two names", list(wrong_pieces(library, two_names)))
-        with ThreadPoolExecutor(THREADS) as threads:
-            at_once = list(threads.map(lambda row: bytes(library.judge(*row)).hex(), table * THREADS))
-        alone = [bytes(library.judge(*row)).hex() for row in table] * THREADS
-        status |= report(f"{THREADS} threads call at once", [f"{a} in place of {b}" for a, b in zip(at_once, alone) if a != b])
-        for language, command in callers(folder, archive, shared):
-            if command is None:
-                print(f"left out: c_library: {language}: there is no compiler")
-                continue
-            some = table[::EACH]
-            wrong = [f"{said} in place of {asked}" for row in some
-                     if (said := answer_of(command, row, folder)) != (asked := line_of(library.judge(*row)))]
-            status |= report(f"a program of {language} judges one row of {EACH} likewise", wrong, f": {len(some)}")
-        random.seed(1)
-        rounds = int(words[0]) if words else 0
-        tried = [changed(random.choice(table)) for _ in range(rounds)]
-        newer = [row for row in tried if is_newer_toml(library, names, row)]
-        wrong = [one for row in tried if row not in newer for one in wrong_row(library, names, row)]
-        wrong += [f"{len(newer)} stores that the reader can't read"] * (len(newer) > rounds // 1000)
-        status |= rounds > 0 and report("rows that are changed at random", wrong, f": {rounds}, without {len(newer)} of TOML 1.1")
+        library, names, table = Library(shared), header_names(), rows()
+        status = report("the struct and the functions of mtc.h, by a C compiler", wrong_header())
+        status |= report("the number of the interface", list(wrong_interface(library, shared)))
+        status |= report("the names of refusals and fields", list(wrong_names(library, names)))
+        status |= check_calls(library, names, table)
+        long = list(largest.rows(header_number("MTC_MAX_CERTIFICATE")))
+        wrong = [one for row in long for one in wrong_row(library, names, row)]
+        status |= report("the verdicts on the largest certificates", wrong, f": of {', '.join(str(len(row[0])) for row in long)} bytes")
+        wrong = list(wrong_in_threads(library, folder, archive, [*long, *table]))
+        status |= report(f"threads of {header_number('MTC_STACK')} bytes of stack judge all rows and these", wrong)
+        status |= report("null pointers", list(programs.wrong_nulls(folder, archive)))
+        status |= check_programs(library, folder, archive, shared, table)
+        status |= report("the library is made twice, byte for byte", list(wrong_twice(folder, archive, shared)))
+        status |= report("whoever unpacks a release builds a caller as its README says", list(wrong_release(folder)))
+        status |= check_random(library, names, table, rounds, day)
     return int(status)
 
 

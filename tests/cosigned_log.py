@@ -1,8 +1,8 @@
 #!/usr/bin/env python3
-"""Has three cosigners sign a log, and compares what `verify` says of its certificates.
+"""Has three cosigners sign a log, and compares what `verify` and `audit` say of its certificates.
 
 The keys of the entries are points of P-256, and each entry has two names. Over real files.
-Usage: tests/cosigned_log.py [ENTRIES]   a power of two from 32 on; the gate takes 64. From 256 on the log is tiled at the end
+Usage: tests/cosigned_log.py [ENTRIES [PROGRAM]]   a power of two from 32 on; the gate takes 1,024. From 256 on the log is tiled at the end
 """
 
 import base64
@@ -10,6 +10,7 @@ import hashlib
 import shutil
 import subprocess
 import sys
+from pathlib import Path
 
 from cosignatures import ROOT, Folder, items, tree_hash
 
@@ -19,6 +20,10 @@ FIRST, LAST = 1767225600, 1767830400
 DATES = 'not_before = "2026-01-01T00:00:00Z"\nnot_after = "2026-01-08T00:00:00Z"\n'
 # The bytes that `cosign` writes with a key of height 10 and width 4, and the most of a certificate.
 COSIGNATURE, MOST = 2519, 65535
+# The size that the gate takes, and the bytes of a proof there with three cosignatures.
+SIZE, PROOF = 1024, 7897
+# So many entries are added one by one, the others in lists of at most so many.
+SINGLE, LISTED = 32, 256
 
 # The field and the generator of P-256, and what its keys begin with (RFC 5480).
 PRIME = 2**256 - 2**224 + 2**192 + 2**96 - 1
@@ -105,6 +110,12 @@ def proof_of(end, path, signatures):
     return span + vector(b"".join(path)) + vector(signatures)
 
 
+def request(number, key):
+    """The request for the entry of this number."""
+    names = f'dns = ["n{number}.example", "www.n{number}.example"]\n'
+    return f'{DATES}{names}key = "{base64.b64encode(key).decode()}"\n'
+
+
 def secret_of(cosigner):
     return hashlib.sha384(cosigner.encode()).digest()
 
@@ -117,19 +128,26 @@ class CosignedLog(Folder):
         self.size, self.wrong = size, []
         self.run("init-log", "j", LOG, "2", str(size))
         keys = p256_keys()
-        for number in range(1, size):
+        for number in range(1, SINGLE):
             self.issue(number, next(keys))
+        for first in range(SINGLE, size, LISTED):
+            self.issue_list(range(first, min(first + LISTED, size)), keys)
         self.entries = items(self.run("entries", "j", str(size)))
         self.run("consist", "j", "0", str(size), into="advance")
         self.run("subtree", "j", "0", str(size), str(size), into="subtree")
         self.keys, self.signatures = zip(*map(self.cosigned, COSIGNERS))
 
     def issue(self, number, key):
-        names = f'dns = ["n{number}.example", "www.n{number}.example"]\n'
-        text = f'{DATES}{names}key = "{base64.b64encode(key).decode()}"\n'
-        self.write("request", text.encode())
+        self.write("request", request(number, key).encode())
         reported = self.run("issue", "j", "request")
         self.expect(f"issue {number}", reported, f"issued {number}\n".encode())
+
+    def issue_list(self, numbers, keys):
+        text = "".join(f"[[request]]\n{request(number, next(keys))}" for number in numbers)
+        self.write("requests", text.encode())
+        reported = self.run("issue-list", "j", "requests")
+        wanted = "".join(f"issued {number}\n" for number in numbers)
+        self.expect(f"issue-list from {numbers[0]} on", reported, wanted.encode())
 
     def cosigned(self, cosigner):
         """The public key of a new cosigner, and its signature as `cosign` writes it."""
@@ -162,6 +180,21 @@ class CosignedLog(Folder):
         ended = subprocess.run(words, cwd=self.path, capture_output=True)
         return f"{ended.returncode} {(ended.stdout + ended.stderr).decode()}".strip()
 
+    def audited(self, cert, store, text, export=b""):
+        """The status of `audit`, and what it writes."""
+        for name, file in (("c", cert), ("store", store), ("items", text), ("export", export)):
+            self.write(name, file)
+        words = [self.program, "audit", "c", "store", str(FIRST), "items", "export"]
+        ended = subprocess.run(words, cwd=self.path, capture_output=True)
+        return f"{ended.returncode} {(ended.stdout + ended.stderr).decode()}".strip()
+
+    def unsigned_export(self):
+        """What the first cosigner would export had it signed nothing."""
+        self.write("secret", secret_of(COSIGNERS[0]))
+        self.run("init-cosigner", "unsigned", COSIGNERS[0], LOG, "10", "4", "secret")
+        self.run("advance", "unsigned", "advance")
+        return self.run("export", "unsigned")
+
     def expect(self, name, found, wanted):
         if found != wanted:
             self.wrong.append(f"wrong: {name}: {found} in place of {wanted}")
@@ -174,6 +207,8 @@ def check_lengths(log, index, whole):
     proof = proof_of(log.size, path_of(index, log.entries), b"".join(log.signatures))
     levels = log.size.bit_length() - 1
     log.expect("the length of the proof", len(proof), 20 + 32 * levels + 3 * COSIGNATURE)
+    if log.size == SIZE:
+        log.expect("the length of its proof", len(proof), PROOF)
     log.expect("the signature", parts(whole)[2], element(0x03, b"\0" + proof))
 
 
@@ -214,6 +249,21 @@ def check_certificates(log, index, whole):
         log.expect(name, log.judged(cert, store, unix_time), wanted)
 
 
+def check_audits(log, index, whole):
+    """Audits of the certificate by the export of a cosigner, and by what lacks its signature."""
+    store, text, own = log.store(2), log.run("entries", "j", str(log.size)), log.run("export", COSIGNERS[0])
+    short = log.run("entries", "j", str(log.size - 1))
+    hashes = f"{tree_hash(log.entries).hex()} {tree_hash(items(short)).hex()}"
+    log.cosigned("32473.9")
+    for name, entries, export, wanted in (
+            ("by the first cosigner", text, own, f"0 stands {index}"),
+            ("the last item is left out", short, own, f"3 foreign {hashes}"),
+            ("an empty export", text, b"", "3 unrecorded"),
+            ("no signature in the export", text, log.unsigned_export(), "3 unrecorded"),
+            ("a cosigner that the store doesn't know", text, log.run("export", "32473.9"), "3 unrecorded")):
+        log.expect(f"audit, {name}", log.audited(whole, store, entries, export), wanted)
+
+
 def check_most(log, index, _whole):
     """The most signatures that a certificate takes, and a byte more."""
     def filled(size):
@@ -235,21 +285,21 @@ def check_tiles(log, index, whole):
         log.expect("the certificate over tiles", log.cert(index, b"".join(log.signatures)), whole)
 
 
-def main():
-    size = int(sys.argv[1]) if len(sys.argv) > 1 else 64
-    built = subprocess.run([ROOT / "mtc", "member", ROOT / "examples/first.member"],
-                           stdout=subprocess.DEVNULL)
-    if built.returncode:
+def main(words):
+    size = int(words[0]) if words else SIZE
+    program = Path(words[1]).resolve() if words[1:] else ROOT / "crates/mtc_main/out/mtc_main"
+    if not words[1:] and subprocess.run([ROOT / "mtc", "member", ROOT / "examples/first.member"],
+                                        stdout=subprocess.DEVNULL).returncode:
         return 70
-    log, index = CosignedLog(ROOT / "crates/mtc_main/out/mtc_main", size), size - 24
+    log, index = CosignedLog(program, size), size - 24
     whole = log.cert(index, b"".join(log.signatures))
-    for check in (check_lengths, check_signatures, check_certificates, check_most, check_tiles):
+    for check in (check_lengths, check_signatures, check_certificates, check_audits, check_most, check_tiles):
         check(log, index, whole)
     shutil.rmtree(log.path)
-    print(*log.wrong, f"certificates of a log of {size} entries and three cosigners are judged",
+    print(*log.wrong, f"certificates of a log of {size} entries and three cosigners are judged and audited",
           sep="\n")
     return bool(log.wrong)
 
 
 if __name__ == "__main__":
-    sys.exit(main())
+    sys.exit(main(sys.argv[1:]))

@@ -13,7 +13,7 @@ Usage: tests/documents.py [CHECK ..]      the checks of these names alone
 import sys
 
 import reference_pages
-from checks import citations, house, ledger, pages, places, secrets
+from checks import citations, house, ledger, named, pages, places, secrets
 from checks.sources import ROOT
 
 
@@ -23,17 +23,16 @@ def check_reference():
 
 
 CHECKS = [
-    pages.check_sentences, pages.check_words, pages.check_links, pages.check_quotations, pages.check_examples,
-    citations.check_names, citations.check_promises, citations.check_meanings,
-    citations.check_architecture, citations.check_commands, citations.check_refusals, places.check_places,
-    citations.check_order, check_reference, house.check_lengths, house.check_errors,
-    house.check_columns, house.check_imports, house.check_heads, house.check_comments, house.check_vocabulary, house.check_private_names,
-    house.check_counts,
-    house.check_edits, ledger.check_ledger, secrets.check_secrets, pages.check_paths,
+    pages.check_links, pages.check_quotations, pages.check_examples, pages.check_paths,
+    citations.check_names, citations.check_promises, citations.check_meanings, citations.check_architecture,
+    citations.check_commands, citations.check_refusals, citations.check_order, places.check_places, check_reference,
+    house.check_lengths, house.check_columns, house.check_imports, house.check_comments, house.check_errors, house.check_words, house.check_costs, house.check_scripts,
+    house.check_chain, named.check_libraries, named.check_gated, house.check_edits, ledger.check_ledger, house.check_waiting, secrets.check_secrets,
 ]
 
 
-REMARKS = {"ledger": ledger.remarks}
+REMARKS = {"waiting": ledger.remarks, "costs": house.remarks_of_costs,
+           "scripts": house.remarks_of_scripts}
 
 
 def run(names):

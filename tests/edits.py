@@ -1,33 +1,41 @@
 #!/usr/bin/env python3
-"""Tries the edits of crates, and writes into tests/edits/tried.txt which crates' edits were all refused.
+"""Tries edits, and writes into tests/edits/tried.txt which were refused.
 
-`tests/edits.py [--jobs N] [CRATE..]`, all crates with edits where none is named. An edit is a small change that makes
-a function wrong. It stands in crates/CRATE/must-fail, where the gate tries it at each run, or in tests/edits/CRATE,
-where only this script does. Both are tried here, on a copy of the sources.
+Usage: tests/edits.py [--jobs N] [CRATE | CRATE/EDIT ..]    these edits, all of a crate; all that there are if none is named
+       tests/edits.py [--jobs N] --stale [MINUTES]          those that wait for their try, the oldest first; within a bound of minutes
+       tests/edits.py [--jobs N] --gate LOG                 as .ci/run does: those that wait, for a quarter of an hour or as many minutes
+                                                            as MTC_EDIT_MINUTES says, none if it is 0; all of two crates drawn by the
+                                                            day; and whether rt ci, by its log, named a clause
+       tests/edits.py [--jobs N] --idle CRATE/EDIT ..       whether the private clause that refuses an edit is needed by anything
+
+An edit is a small change that makes a function wrong. It stands in crates/CRATE/must-fail, where rt ci tries it at each run, or in
+tests/edits/CRATE, where only this script does. Both are tried here, on a copy of the sources.
 
 An edit counts as refused only where the check says of the changed function itself that a clause is not proved: what it
 ensures, what a function of these crates that it calls requires, the invariant of its loop, or the invariant of a type.
 An edit that is refused for anything else, as for a sum that may be too large, a call of std, a limit of the prover, or
-a proof that names what is no longer there, doesn't count, and neither does one that doesn't compile. Then the crate
-gets no line, and the script ends with status 1.
+a proof that names what is no longer there, doesn't count, and neither does one that doesn't compile. Then it has no line, and the
+script ends with status 1.
 
 A clause stands open in one of two ways. The search for its proof fails. Or what was written by hand doesn't fit any
-longer: the proof of the clause, or the invariant of a loop, which stands in a proof. Both are reported apart below, since
+longer: the proof of the clause, or the invariant of a loop, which stands in a proof. Both are reported apart, since
 the second says less: another one might fit. A search that gives up at a limit of its own has failed like one that has
-tried all, so the first doesn't show either that the clause is false.
+tried all, so the first doesn't show either that the clause is false. A clause is public if it is one of a call that other crates
+can make; a private one may say the body again, and --idle asks whether anything needs it.
 
 Edits of different functions are made in one copy, and one check says of each: a function is proved by the contracts of
 those that it calls, so a wrong body elsewhere changes nothing for it. Edits of one function, and those that didn't
-count beside others, are tried one by one. All of it begins with what `rt check` has kept, and takes some 14 processor
+count beside others, are tried one by one. All of it begins with what `rt check` has kept, and takes some 5 to 14 processor
 seconds an edit; where nothing is kept, the crate and all below are proved first.
 
-What a line of the ledger promises: on some machine these edits were refused against these contracts. Who wrote the line
+What a line of the ledger promises: on some machine this edit was refused against what its sums are of. Who wrote the line
 is believed for that. Who doesn't want to believe it, as a release does, runs this script for all crates.
 """
 import collections
 import functools
 import os
 import pathlib
+import random
 import re
 import resource
 import shutil
@@ -38,8 +46,10 @@ import tempfile
 import time
 
 sys.dont_write_bytecode = True
-from checks import ledger
-from checks.sources import BORROWED_SLICE, ROOT
+import reference_pages
+from checks import edited, ledger
+from checks.citations import CRATES, below
+from checks.sources import CLAUSE, ROOT, after_braces, after_head
 
 PARTS = ("src", "specs", "proofs")
 OPEN = re.compile(r"note: (src/\S+?):(\d+):\d+: it is not proved that (.*?)(; .*)?$", re.M)
@@ -54,70 +64,12 @@ GONE = re.compile(r"has no field|is not in scope|has no `|was not admitted|unkno
 LIMIT = re.compile(r"antt ran out of|outgrew the memory limit|stopped at the step limit|stopped at its own limit|may hold")
 PROVED = re.compile(r"^fn (\S+): proved$", re.M)
 
-Function = collections.namedtuple("Function", "file begin end places")
-Found = collections.namedtuple("Found", "counts by_search what")
-
-
-def begin_of(function, lines):
-    """The line of a function's first attribute or comment: a check names that line for the whole function."""
-    begin = function.line
-    while begin > 1 and lines[begin - 2].strip().startswith(("#[", "//")):
-        begin -= 1
-    return begin
-
-
-def modules_of(crate, file):
-    """The modules of a file, as a folder."""
-    parts = file.path.relative_to(crate.folder).with_suffix("").parts[1:]
-    return "/".join(it for it in parts if it not in ("lib", "main", "mod"))
-
-
-def places_of(crate, function, file):
-    """The folders that a function's proofs may have: its modules or those of its type, its type with its trait, its name."""
-    if not function.owner:
-        return (f"{modules_of(crate, file)}/{function.name}".removeprefix("/"),)
-    declared = re.compile(rf"\b(?:struct|enum|trait) +{function.owner}\b")
-    homes = {modules_of(crate, it) for it in crate.files if it is file or declared.search(it.bare)}
-    owner = BORROWED_SLICE.pattern if function.owner == "RefSlice" else rf"{function.owner}\b"
-    traits = re.findall(rf"^impl\b[^{{;]*?\b(\w+)(?:<[^{{;]*?>)? for {owner}", file.bare, re.M)
-    return tuple(sorted(f"{home}/{function.owner}{trait}/{function.name}".removeprefix("/")
-                        for home in homes for trait in {"", *traits}))
-
-
-class Edit:
-    """One edit, with the functions that it changes."""
-
-    def __init__(self, crate, path):
-        self.crate, self.name = crate, path.name.removesuffix(".edit")
-        self.changes = list(ledger.changes_of(path))
-        self.functions = {self.function_at(file, old) for file, old, _ in self.changes}
-
-    def function_at(self, name, old):
-        """The function that holds a text of a file, or nothing; each ends where the next begins."""
-        file = next((it for it in self.crate.files if it.path == self.crate.folder / name), None)
-        if file is None or old not in file.text:
-            return None
-        line = file.text.count("\n", 0, file.text.index(old)) + 1
-        begins = [begin_of(one, file.text.split("\n")) for one in file.functions]
-        ends = [*begins[1:], file.text.count("\n") + 2]
-        for one, begin, end in zip(file.functions, begins, ends):
-            if begin <= line < end:
-                return Function(name, begin, end, places_of(self.crate, one, file))
-        return None
-
-    @property
-    def stands_alone(self):
-        return None in self.functions
-
-    def applied(self, folder):
-        """Makes the edit below a folder, or says why it can't be made."""
-        for file, old, new in self.changes:
-            path = folder / file
-            count = path.read_text().count(old) if path.is_file() else 0
-            if count != 1:
-                return f"an old text of it stands in {file} {count} times, and not once"
-            path.write_text(path.read_text().replace(old, new))
-        return None if self.changes else "it changes nothing"
+# A clause that stands open: whether a search left it so, whether it is public, what the check says, its goal.
+Open = collections.namedtuple("Open", "by_search public what goal")
+# What came of an edit: whether it counts, by which clause, and what is said of it.
+Found = collections.namedtuple("Found", "counts clause what")
+# How many minutes the gate tries edits that wait, and how many crates it draws.
+MINUTES, DRAWN = 15, 2
 
 
 class Copy:
@@ -128,8 +80,8 @@ class Copy:
         self.flags = ["--jobs", jobs] if jobs else []
         for name in ("crates.txt", "HANDLES"):
             shutil.copy(ROOT / name, self.room)
-        self.lines = {name: ledger.line_of(name) for name in ledger.with_edits()}
-        for crate in ledger.CRATES:
+        self.stamps = {name: stamp_of(name) for name in CRATES}
+        for crate in CRATES:
             for part in PARTS:
                 if (ROOT / "crates" / crate / part).is_dir():
                     shutil.copytree(ROOT / "crates" / crate / part, self.room / "begun" / crate / part)
@@ -178,6 +130,13 @@ class Copy:
         shutil.rmtree(self.room, ignore_errors=True)
 
 
+def stamp_of(crate):
+    """The files of a crate and of its edits, with their times and lengths."""
+    folders = [ROOT / "crates" / crate / part for part in PARTS]
+    paths = sorted(path for folder in (*folders, *edited.folders_of(crate)) for path in folder.rglob("*") if path.is_file())
+    return [(path, path.stat().st_mtime_ns, path.stat().st_size) for path in paths]
+
+
 def linked(folder, to):
     """Copies what a check kept: proofs by links, since a check replaces such a file and changes none."""
     shutil.copytree(folder, to, copy_function=lambda one, other: os.link(one, other) if one.endswith(".oantt")
@@ -196,44 +155,52 @@ def is_of(function, place):
 def has_own_requires(crate, name):
     """Whether a function that a crate can call, of itself or of those that it names, has that name and requires something."""
     head = re.compile(rf"\bfn {name}\b[^;{{]*\brequires\b")
-    near = [ledger.CRATES[one] for one in (crate, *ledger.CRATES[crate].needs) if one in ledger.CRATES]
+    near = [CRATES[one] for one in (crate, *CRATES[crate].needs) if one in CRATES]
     return name not in OF_STD and any(head.search(file.bare) for one in near for file in one.files)
 
 
-def is_clause(crate, what):
-    required = REQUIRED.match(what)
-    return has_own_requires(crate, required[1]) if required else what.startswith(CLAUSES)
+def is_public(crate, function):
+    """Whether other crates can call a function, also by a trait."""
+    return function.of_trait or any(function is one for one in CRATES[crate].calls.values())
 
 
-def is_clause_goal(crate, goal):
-    """Whether a goal that has a proof by hand is one of a clause, by its name."""
-    required = REQUIRED_GOAL.search(goal)
+def kind_of(crate, functions, what, goal):
+    """Whether a goal is of a clause, and of a public one: of the changed functions, of what they call, of a type, or of a loop."""
+    required = REQUIRED.match(what) or REQUIRED_GOAL.search(goal)
     if required:
-        return has_own_requires(crate, required[1])
-    return goal.startswith(("returns", "invariant_of")) or goal.endswith("-preserved")
+        near = [one for home in edited.near(crate) for one in CRATES[home].functions if one.name == required[1] and one.requires]
+        return has_own_requires(crate, required[1]), any(one.public for one in near)
+    if what.startswith("what the function ensures") or not what and goal.startswith("returns"):
+        return True, any(is_public(crate, one) for one in functions)
+    return what.startswith(CLAUSES) or goal.startswith("invariant_of") or not what and goal.endswith("-preserved"), False
+
+
+def clauses_in(edit, said):
+    """The clauses that a check leaves open in the functions that an edit changes, or in any where it changes none; and the rest."""
+    own, crate, clauses, rest = [it for it in edit.functions if it], edit.crate.name, [], []
+    for file, line, what, tail in OPEN.findall(said):
+        its = [it.function for it in own if it.file == file and it.begin <= int(line) < it.end]
+        if its or edit.stands_alone:
+            goal = (re.findall(r"\(`([^`]+)`\)", what) or [""])[-1]
+            is_clause, public = kind_of(crate, its, what, goal)
+            fits = not LIMIT.search(tail) and (is_clause or what.startswith(LOOP))
+            (clauses if fits else rest).append(Open(is_clause, public, f"{what}, {file}:{line}", goal))
+    for place, goal, why in UNFIT.findall(said):
+        its = [it.function for it in own if is_of(it, place)]
+        if its or edit.stands_alone:
+            is_clause, public = kind_of(crate, its, "", goal)
+            fits = is_clause and not GONE.search(why) and not LIMIT.search(why)
+            what = f"the proof by hand of `{goal}` doesn't fit: {why}".split("\n")[0]
+            (clauses if fits else rest).append(Open(False, public, what, goal))
+    return sorted(clauses, key=lambda one: (not one.by_search, not one.public)), rest
 
 
 def found_of(edit, said):
     """What a check says of the functions that an edit changes; of all functions, where it changes none."""
-    own, crate = [it for it in edit.functions if it], edit.crate.name
-    notes = [(what, tail, f"{file}:{line}") for file, line, what, tail in OPEN.findall(said)
-             if edit.stands_alone or any(it.file == file and it.begin <= int(line) < it.end for it in own)]
-    unfit = [(goal, why) for place, goal, why in UNFIT.findall(said)
-             if edit.stands_alone or any(is_of(it, place) for it in own)]
-    whole = [(what, place) for what, tail, place in notes if not LIMIT.search(tail)]
-    for what, place in whole:
-        if is_clause(crate, what):
-            return Found(True, True, f"{what}, {place}")
-    for goal, why in unfit:
-        if is_clause_goal(crate, goal) and not GONE.search(why) and not LIMIT.search(why):
-            return Found(True, False, f"the proof by hand of `{goal}` doesn't fit: {why}".split("\n")[0])
-    for what, place in whole:
-        if what.startswith(LOOP):
-            return Found(True, False, f"{what}, {place}")
-    if notes or unfit:
-        what = "".join(notes[0][:2]) if notes else f"`{unfit[0][0]}`: {unfit[0][1]}"
-        return Found(False, False, f"refused, and no clause: {what}")
-    return Found(False, False, "")
+    clauses, rest = clauses_in(edit, said)
+    if clauses:
+        return Found(True, clauses[0]._replace(public=any(one.public for one in clauses)), clauses[0].what)
+    return Found(False, None, f"refused, and no clause: {rest[0].what}" if rest else "")
 
 
 def why_nothing(said):
@@ -280,7 +247,7 @@ def tried_together(copy, crate, group, known):
     if faults and len(group) > 1:
         return [], group
     if faults:
-        return [(group[0], Found(False, False, faults[0][1]))], []
+        return [(group[0], Found(False, None, faults[0][1]))], []
     said = copy.check(crate, named(group, known))
     done, again = [], []
     for edit in group:
@@ -288,16 +255,15 @@ def tried_together(copy, crate, group, known):
         if len(group) > 1 and not found.counts:
             again.append(edit)
         else:
-            done.append((edit, found if found.what else Found(False, False, why_nothing(said))))
+            done.append((edit, found if found.what else Found(False, None, why_nothing(said))))
     return done, again
 
 
-def tried(copy, crate):
-    """(edit, what was found) for all edits of a crate."""
+def tried(copy, crate, edits):
+    """(edit, what was found) for these edits of a crate."""
     said = copy.prove(crate)
     if "\nlogic=proved" not in said:
         sys.exit(f"{said[-2000:]}\n{crate} itself is not proved")
-    edits = [Edit(ledger.CRATES[crate], path) for path in ledger.edits_of(crate)]
     known, results = PROVED.findall(said), []
     for group in together(edits):
         done, again = tried_together(copy, crate, group, known)
@@ -308,25 +274,32 @@ def tried(copy, crate):
     return results
 
 
-def reported(copy, crate):
-    """Tries a crate's edits, prints what came of each, writes its line, and returns whether it could."""
+def reported(copy, crate, edits):
+    """Tries edits of a crate, prints what came of each, writes their lines, and returns whether each counts."""
     before, begun = seconds(), time.monotonic()
-    results = tried(copy, crate)
+    results = tried(copy, crate, edits)
     for edit, found in sorted(results, key=lambda it: it[0].name):
-        print(f"{crate}/{edit.name}: {'refused' if found.counts else 'DOES NOT COUNT'}: {found.what[:200]}")
-    by_search = sum(found.by_search for _, found in results)
-    by_hand = sum(found.counts for _, found in results) - by_search
-    missed = len(results) - by_search - by_hand
-    print(f"{crate}: {len(results)} edits, {by_search} refused by a search, {by_hand} by a proof by hand,",
-          f"{missed} not; {seconds() - before:.0f} processor seconds, {time.monotonic() - begun:.0f} by the clock",
-          flush=True)
-    if ledger.line_of(crate) != copy.lines[crate]:
-        print(f"{crate}: its edits changed while they were tried")
+        kind = "public" if found.counts and found.clause.public else "private"
+        print(f"{edit.key}: {f'refused by a {kind} clause' if found.counts else 'DOES NOT COUNT'}: {found.what[:200]}")
+    by_search = sum(found.counts and found.clause.by_search for _, found in results)
+    missed = sum(not found.counts for _, found in results)
+    print(f"{crate}: {len(results)} edits, {by_search} refused by a search, {len(results) - by_search - missed} by a proof by hand,",
+          f"{missed} not; {seconds() - before:.0f} processor seconds, {time.monotonic() - begun:.0f} by the clock", flush=True)
+    if any(stamp_of(one) != copy.stamps[one] for one in (crate, *below(crate))):
+        print(f"{crate}: it changed, or what is below it, while its edits were tried: no line is written")
         return False
-    if missed:
-        return False
-    ledger.write(crate, by_search, by_hand)
-    return True
+    today = time.strftime("%Y-%m-%d", time.gmtime())
+    ledger.write({edit.key: line_of(edit, found, today) for edit, found in results})
+    return not missed
+
+
+def line_of(edit, found, today):
+    """The line of an edit; none where it doesn't count. A line that is in force and says the same stays, with its day."""
+    if not found.counts:
+        return None
+    line = ledger.line_now(edit.key, today, "search" if found.clause.by_search else "hand", "public" if found.clause.public else "private")
+    old = ledger.lines().get(edit.key)
+    return old if old and old._replace(day=today) == line else line
 
 
 def seconds():
@@ -335,21 +308,135 @@ def seconds():
     return used.ru_utime + used.ru_stime
 
 
+def tried_all(jobs, keys, minutes=None):
+    """Tries these edits, crate by crate in their order, until the minutes are over; returns whether each that was tried counts."""
+    by_crate, until = {}, time.monotonic() + 60 * minutes if minutes else None
+    for key in keys:
+        ledger.sums_of(key)  # of the sources as they are copied now
+        by_crate.setdefault(key.split("/")[0], []).append(ledger.edits()[key])
+    if not keys:
+        return True
+    copy, count = Copy(jobs), True
+    try:
+        for crate, edits in by_crate.items():
+            if until and time.monotonic() > until:
+                break
+            count &= reported(copy, crate, edits)
+    finally:
+        copy.remove()
+        reference_pages.renew_edits()
+    return count
+
+
+def keys_of(words):
+    """The edits that words name: all of a crate, or one."""
+    found = [key for word in words for key in ledger.edits() if word in (key, key.split("/")[0])]
+    unknown = [word for word in words if not any(word in (key, key.split("/")[0]) for key in found)]
+    if unknown:
+        sys.exit(f"there are no edits of {', '.join(unknown)}")
+    return found
+
+
+# ---- in the gate
+
+
+def unnamed(log):
+    """The edits of must-fail/ of which the log of rt ci says that something else than a clause refused them, and no line in force
+    says that a clause did."""
+    told = {f"{crate}/{name}": said for crate, name, said in
+            re.findall(r"must-fail (\w+)/(\S+)\.edit: refused, as it must be: (.*)$", pathlib.Path(log).read_text(errors="replace"), re.M)}
+    for key, edit in ledger.edits().items():
+        if edit.path.parent.name == "must-fail" and key in told and ledger.why_it_waits(key):
+            if not clauses_in(edit, told[key])[0]:
+                yield f"wrong: {key}: rt ci names another reason than a clause for its refusal, and no line in force names one"
+
+
+def gate(jobs, log):
+    """Tries the edits that wait, and those of two crates that the day draws; returns whether each counts."""
+    minutes, count = float(os.environ.get("MTC_EDIT_MINUTES", MINUTES)), True
+    if minutes:
+        stale, day = ledger.waiting(), int(time.time()) // (24 * 60 * 60)
+        drawn = random.Random(day).sample(edited.with_edits(), DRAWN)
+        print(f"edits: {len(stale)} wait, and are tried for {minutes:.0f} minutes; drawn on day {day}: {' '.join(drawn)}", flush=True)
+        count = tried_all(jobs, stale, minutes)
+        count &= tried_all(jobs, keys_of(drawn))
+    else:
+        print("left out: edits: none was tried, as MTC_EDIT_MINUTES is 0")
+    wrong = list(unnamed(log))
+    print(*wrong, sep="\n", end="\n" * bool(wrong))
+    return count and not wrong
+
+
+# ---- idle clauses
+
+
+def clause_spans(file, function):
+    """(kind, label, begin, end) for each clause of a function, with its proof where one stands beside it."""
+    place = after_head(file.bare, file.bare.index("(", function.span[0]))
+    while clause := CLAUSE.match(file.bare, place):
+        end = after_braces(file.bare, clause.end() - 1)
+        by = re.match(r"\s*by\s*\{", file.bare[end:])
+        end = after_braces(file.bare, end + by.end() - 1) if by else end
+        yield clause[1], clause[2] or "", clause.start(1), end
+        place = end
+
+
+def without_clauses(edit, clauses):
+    """The text of the file of an edit's one function without the clauses that refuse it, or nothing where that isn't mechanical."""
+    places = [it for it in edit.functions if it]
+    if len(places) != 1 or edit.stands_alone:
+        return None
+    file, spans = places[0].source, [it for it in clause_spans(places[0].source, places[0].function) if it[0] == "ensures"]
+    gone = [it for it in spans for one in clauses if one.goal == "returns" and len(spans) == 1
+            or it[1] and re.match(rf"returns-clause-{it[1]}(?:-|$)", one.goal)]
+    if not gone or any(not one.goal.startswith("returns") for one in clauses):
+        return None
+    text = file.text
+    for _, _, begin, end in sorted(set(gone), reverse=True):
+        text = text[:begin] + text[end:]
+    return places[0].file, text
+
+
+def idle(copy, edit):
+    """Says whether anything needs the private clauses that refuse an edit."""
+    crate = edit.crate.name
+    said = copy.prove(crate)
+    copy.begin(crate)
+    why = edit.applied(copy.folder(crate))
+    clauses, _ = clauses_in(edit, copy.check(crate, named([edit], PROVED.findall(said)))) if not why else ([], None)
+    if not clauses or any(one.public for one in clauses):
+        return why or ("a public clause refuses it" if clauses else "no clause refuses it")
+    changed = without_clauses(edit, clauses)
+    if not changed:
+        return f"a private clause refuses it, which can't be taken away without thought: {clauses[0].what[:150]}"
+    copy.begin(crate)
+    (copy.folder(crate) / changed[0]).write_text(changed[1])
+    said = copy.check(crate)
+    if "\nlogic=proved" in said:
+        return f"IDLE: without the clause that refuses it all of {crate} is proved: {clauses[0].what[:150]}"
+    needing = re.findall(r"^fn (\S+): (?:not proved|no proof)", said, re.M)
+    return f"needed: without the clause that refuses it these aren't proved: {', '.join(needing) or said[-300:]}"
+
+
 def main(words):
     signal.signal(signal.SIGTERM, lambda *_: sys.exit("stopped"))
     jobs = words[1] if words[:1] == ["--jobs"] else ""
-    known = ledger.with_edits()
-    names = words[2 if jobs else 0:] or known
-    unknown = [name for name in names if name not in known]
-    if unknown:
-        sys.exit(f"there are no edits of {', '.join(unknown)}")
-    copy = Copy(jobs)
-    try:
-        missed = [name for name in names if not reported(copy, name)]
-    finally:
-        copy.remove()
-    sys.exit(f"no line is written of {', '.join(missed)}" if missed else 0)
+    words = words[2 if jobs else 0:]
+    if words[:1] == ["--gate"] and len(words) == 2:
+        return not gate(jobs, words[1])
+    if words[:1] == ["--stale"] and len(words) < 3:
+        return not tried_all(jobs, ledger.waiting(), *map(float, words[1:]))
+    if words[:1] == ["--idle"]:
+        copy = Copy(jobs)
+        try:
+            for key in keys_of(words[1:]):
+                print(f"{key}: {idle(copy, ledger.edits()[key])}", flush=True)
+                copy.begin(key.split("/")[0])
+        finally:
+            copy.remove()
+        return 0
+    return not tried_all(jobs, keys_of(words) if words else list(ledger.edits()))
 
 
 if __name__ == "__main__":
-    main(sys.argv[1:])
+    sys.exit(main(sys.argv[1:]))

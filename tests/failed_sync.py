@@ -2,13 +2,15 @@
 """Runs the program on a disk that refuses writes for a while, so that a sync fails, and checks that what is acknowledged
 afterwards is on the disk.
 
-A Linux system takes a page whose sync failed for written, keeps it in memory, and answers the next sync with Ok. The disk
-here is one in memory (zram) that refuses while its memory is limited; what a power cut would leave is read from it with
-no page of the system's memory in between, and mounted as a copy. Needs root, zram disks, loop devices and strace; where they
-aren't there it says that this is left out, and ends with status 0. Not part of the gate.
-Usage: tests/failed_sync.py [PROGRAM]
+A Linux system takes a page whose sync failed for written, keeps it in memory, and answers the next sync with Ok. On ext4 a
+block that was new to its file then keeps its zeros on the disk, whatever is written to it. So after a sync that failed the
+program cuts the file off behind what is on the disk, and closes a commit byte that it had opened. The disk here is one in memory (zram) that refuses while its memory is
+limited; what a power cut would leave is read from it with no page of the system's memory in between, and mounted as a copy.
+Needs root, zram disks, loop devices and strace; where they aren't there it says that this is left out, and ends with status 0.
+Not part of the gate. Usage: tests/failed_sync.py [PROGRAM [CHECK ..]]
 """
 
+import mmap
 import os
 import re
 import shutil
@@ -18,7 +20,7 @@ import tempfile
 import time
 from pathlib import Path
 
-from files.commands import COSIGNER, LOG, numbers_of
+from files.commands import COSIGNER, LOG, numbers_of, with_wrong_byte
 from files.locks import number_in
 
 ROOT = Path(__file__).resolve().parent.parent
@@ -28,11 +30,12 @@ NEW_LOG = ["init-log", "j", "32473.1", "2", "100000"]
 # What makes a file system, and how many bytes it needs.
 SYSTEMS = {"ext2": (["mkfs.ext2", "-q"], 32 << 20), "ext4": (["mkfs.ext4", "-q"], 32 << 20),
            "xfs": (["mkfs.xfs", "-q"], 400 << 20)}
-# The syncs of a command that adds a record: those of the folder and of its journal, that of the record, that of its commit
-# byte. A `tile` that makes the file of tiles syncs this and the folder before the journal is opened, and makes two between,
-# about the writes of the tiles. `init-log` makes two at its opening, so its fourth is that of the commit byte too.
-RECORD, COMMIT_BYTE, TILES, FIRST = 3, 4, 6, 4
+# The syncs of a command that adds a record, counted from its last one: that of the commit byte, that of the record, and in a
+# `tile` that of the tiles. The last one of a `tile-anew` is that of the tiles.
+COMMIT_BYTE, RECORD, TILES, LAST = 0, 1, 2, 0
 PAGE = 4096
+# A log of so many entries has a journal of some three million bytes.
+ENTRIES = 15000
 # How many one-time keys a cosigner of height 5 has.
 KEYS = 32
 
@@ -100,9 +103,19 @@ def size(program, folder):
     return int(found[1]) if status == 0 and found else f"checkpoint: {status} {out}{err}"
 
 
-def stopped(program, disk, sync, words):
-    """What a command answers whose sync of that number the disk refuses, and all that follow."""
-    trace = disk.path.parent / "trace"
+def syncs(program, disk, words):
+    """How many syncs the command makes over a copy of the disk's files."""
+    copy, trace = disk.path.parent / "tried", disk.path.parent / "trace"
+    shutil.copytree(disk.path, copy, ignore=shutil.ignore_patterns("lost+found"))
+    subprocess.run(["strace", "-qq", "-o", trace, "-e", "trace=fsync", program, *words], cwd=copy, check=True, capture_output=True)
+    shutil.rmtree(copy)
+    return trace_of(trace).count("fsync(")
+
+
+def stopped(program, disk, from_end, words):
+    """What a command answers of whose syncs this one, counted from the last, is refused by the disk, and all that follow."""
+    trace, sync = disk.path.parent / "trace", syncs(program, disk, words) - from_end
+    trace.unlink()
     waits = ["strace", "-qq", "-o", trace, "-e", "trace=pwrite64,fsync", "-e", f"inject=fsync:delay_enter=2000000:when={sync}"]
     process = subprocess.Popen([*waits, program, *words], cwd=disk.path, stdout=subprocess.PIPE, stderr=subprocess.PIPE)
     while process.poll() is None and trace_of(trace).count("fsync(") < sync:
@@ -111,6 +124,12 @@ def stopped(program, disk, sync, words):
     out, err = process.communicate()
     disk.refuse(False)
     return process.returncode, out.decode(), err.decode()
+
+
+def written_to(disk):
+    """Where the last write ends of the command that was stopped last, but for one of a single byte."""
+    found = re.findall(r"^pwrite64\(.*, (\d+), (\d+)\) ", trace_of(disk.path.parent / "trace"), re.M)
+    return next(int(size) + int(place) for size, place in reversed(found) if size != "1")
 
 
 def trace_of(trace):
@@ -142,16 +161,44 @@ def new_log(program, disk):
     os.sync()
 
 
-def check_commit_byte(program, disk):
-    """The sync of a record's commit byte fails, of a record that reaches over several pages"""
+def without_record(program, disk):
+    """A log of two entries of which an `issue` was stopped at the sync of its commit byte: the disk has the record, which reaches
+    over several pages, behind a closed commit byte. The next commit byte lies in another page than that of the record."""
     yield from new_log(program, disk)
     request(disk.path, "long", 60)
     words = ["issue", "j", "long"]
     yield from unlike("the issue that is stopped", stopped(program, disk, COMMIT_BYTE, words), (5, "", "mtc: issue: j: Failed\n"))
-    # The system's memory has the record, and the disk hasn't. The next commit byte lies in another page than that of the record.
     yield from unlike("the size after a power cut now", disk.cut(lambda copy: size(program, copy)), 2)
     yield from unlike("the record is long", len((disk.path / "j").read_bytes()) > 8192, True)
-    yield from continues(program, disk, 3)
+
+
+def check_commit_byte(program, disk):
+    """The sync of a record's commit byte fails, and the next commands have what the disk has"""
+    yield from without_record(program, disk)
+    yield from continues(program, disk, 2)
+
+
+def check_mapped(program, disk):
+    """The same while another process has the journal mapped"""
+    yield from without_record(program, disk)
+    with open(disk.path / "j", "rb") as journal, mmap.mmap(journal.fileno(), 0, prot=mmap.PROT_READ) as mapped:
+        touched = sum(mapped[place] for place in range(0, len(mapped), PAGE))
+        request(disk.path, "more", 1)
+        yield from unlike("issue", run(program, disk.path, "issue", "j", "more"), (0, "issued 2\n", ""))
+        yield from continues(program, disk, 3)
+        yield from unlike("the pages are mapped", touched > 0, True)
+
+
+def check_large(program, disk):
+    """The sync of a commit byte fails in a journal of some megabytes, which the system keeps in large pieces"""
+    subprocess.run([sys.executable, ROOT / "bench/log/make_journal.py", str(ENTRIES), disk.path / "j"], check=True)
+    (disk.path / "j.tiles").unlink(missing_ok=True)
+    os.sync()
+    yield from unlike("the size before", size(program, disk.path), ENTRIES)
+    request(disk.path, "more", 1)
+    words = ["issue", "j", "more"]
+    yield from unlike("the issue that is stopped", stopped(program, disk, COMMIT_BYTE, words), (5, "", "mtc: issue: j: Failed\n"))
+    yield from continues(program, disk, ENTRIES)
 
 
 def check_record(program, disk):
@@ -164,17 +211,27 @@ def check_record(program, disk):
 
 
 def check_first(program, disk):
-    """The last sync of `init-log` fails"""
+    """The last sync of `init-log` fails: the disk has no log, and one is begun there as soon as the file is away"""
     wanted = (5, "", "mtc: init-log: j: Failed\n")
-    yield from unlike("the init-log that is stopped", stopped(program, disk, FIRST, NEW_LOG), wanted)
+    yield from unlike("the init-log that is stopped", stopped(program, disk, COMMIT_BYTE, NEW_LOG), wanted)
+    wanted = "checkpoint: 2 mtc: checkpoint: j: BadRecord 0\n"
+    yield from unlike("the log", size(program, disk.path), wanted)
+    yield from unlike("the log after a power cut", disk.cut(lambda copy: size(program, copy)), wanted)
+    (disk.path / "j").unlink()
+    yield from unlike("init-log", run(program, disk.path, *NEW_LOG), (0, "log 32473.1\n", ""))
     yield from continues(program, disk, 1)
 
 
-def check_tiles(program, disk):
-    """The sync of a file of tiles fails after their writes"""
+def long_log(disk):
+    """A log of 600 entries without a tile file."""
     subprocess.run([sys.executable, ROOT / "bench/log/make_journal.py", "600", disk.path / "j"], check=True)
     (disk.path / "j.tiles").unlink(missing_ok=True)
     os.sync()
+
+
+def check_tiles(program, disk):
+    """The sync of a tile file fails after the writes of its tiles"""
+    long_log(disk)
     wanted = (5, "", "mtc: tile: j.tiles: Failed\n")
     yield from unlike("the tile that is stopped", stopped(program, disk, TILES, ["tile", "j"]), wanted)
     yield from unlike("the size after a power cut now", disk.cut(lambda copy: size(program, copy)), 600)
@@ -184,9 +241,32 @@ def check_tiles(program, disk):
                       (4, "", "mtc: tile: NothingNew\n"))
 
 
-def signed(program, folder):
+def check_tiles_anew(program, disk):
+    """The last sync of `tile-anew` fails, over a tile file that is lost, and over one with a wrong byte; given again it writes what
+    the disk doesn't have"""
+    anew, good = ["tile-anew", "j"], (0, "tiled 512\n", "")
+    for what in ("lost", "wrong"):
+        long_log(disk)
+        yield from unlike("tile", run(program, disk.path, "tile", "j"), good)
+        tiles = disk.path / "j.tiles"
+        text = with_wrong_byte(tiles.read_bytes())
+        if what == "wrong":
+            tiles.write_bytes(text)
+        else:
+            tiles.unlink()
+        os.sync()
+        wanted = (5, "", "mtc: tile-anew: j.tiles: Failed\n")
+        yield from unlike(f"the tile-anew that is stopped, {what}", stopped(program, disk, LAST, anew), wanted)
+        yield from unlike("tile-anew after a power cut now", disk.cut(lambda copy: run(program, copy, *anew)), good)
+        yield from unlike(f"tile-anew given again, {what}", run(program, disk.path, *anew), good)
+        yield from unlike(f"the size after a power cut, {what}", disk.cut(lambda copy: size(program, copy)), 600)
+        yield from unlike("tile after it", disk.cut(lambda copy: run(program, copy, "tile", "j")),
+                          (4, "", "mtc: tile: NothingNew\n"))
+
+
+def signed(program, folder, part="part"):
     """The number of the one-time key of one more signature by the cosigner, or what is wrong."""
-    status, out, err = run(program, folder, "cosign", "s", "part")
+    status, out, err = run(program, folder, "cosign", "s", part)
     return number_in(out.encode("latin-1")) if status == 0 else f"cosign: {status} {err}"
 
 
@@ -196,16 +276,22 @@ def used(program, folder):
     return numbers_of(out.encode("latin-1")) if status == 0 else f"export: {status} {err}"
 
 
-def new_cosigner(program, disk):
-    """A cosigner of a log of 600 entries, and a request to it. A record of its signature has some 300 bytes."""
+# Requests to a cosigner of a log of 600 entries. The proof of `long` has one hash more than that of `short`.
+REQUESTS = {"first": "consist j 0 511", "part": "subtree j 0 4 511", "half": "subtree j 0 256 511",
+            "long": "consist j 511 600", "short": "consist j 511 512", "after": "subtree j 0 4 512"}
+
+
+def new_cosigner(program, disk, identity=COSIGNER):
+    """A cosigner of a log of 600 entries that holds 511 of them, and requests to it. A record of its signature has some 300
+    bytes."""
     for name in ("s", "j", "j.tiles"):
         (disk.path / name).unlink(missing_ok=True)
     subprocess.run([sys.executable, ROOT / "bench/log/make_journal.py", "600", disk.path / "j"], check=True)
     (disk.path / "secret").write_bytes(os.urandom(48))
-    for file, words in (("all", ["consist", "j", "0", "600"]), ("part", ["subtree", "j", "0", "4", "600"])):
-        (disk.path / file).write_bytes(run(program, disk.path, *words)[1].encode("latin-1"))
-    yield from unlike("init-cosigner", run(program, disk.path, "init-cosigner", "s", COSIGNER, LOG, "5", "1", "secret")[0], 0)
-    yield from unlike("advance", run(program, disk.path, "advance", "s", "all"), (0, "advanced 600\n", ""))
+    for file, words in REQUESTS.items():
+        (disk.path / file).write_bytes(run(program, disk.path, *words.split())[1].encode("latin-1"))
+    yield from unlike("init-cosigner", run(program, disk.path, "init-cosigner", "s", identity, LOG, "5", "1", "secret")[0], 0)
+    yield from unlike("advance", run(program, disk.path, "advance", "s", "first"), (0, "advanced 511\n", ""))
 
 
 def check_key(program, disk):
@@ -221,11 +307,55 @@ def check_key(program, disk):
     os.sync()
     words = ["cosign", "s", "part"]
     yield from unlike("the cosign that is stopped", stopped(program, disk, COMMIT_BYTE, words), (5, "", "mtc: cosign: s: Failed\n"))
-    # The system's memory has the record, and the disk hasn't.
+    # It was stopped before it signed: the key has signed nothing.
     yield from unlike("the keys after a power cut now", disk.cut(lambda copy: used(program, copy)), [*range(keys)])
-    yield from unlike("the key of the next signature", signed(program, disk.path), keys + 1)
-    yield from unlike("the keys after a power cut", disk.cut(lambda copy: used(program, copy)), [*range(keys + 2)])
-    yield from unlike("the next key after a power cut", disk.cut(lambda copy: signed(program, copy)), keys + 2)
+    yield from unlike("the key of the next signature", signed(program, disk.path), keys)
+    yield from unlike("the keys after a power cut", disk.cut(lambda copy: used(program, copy)), [*range(keys + 1)])
+    yield from unlike("the next key after a power cut", disk.cut(lambda copy: signed(program, copy)), keys + 1)
+
+
+def growth(program, disk, *commands):
+    """The length of the cosigner's journal, and by how many bytes each of these commands makes it longer, over a copy."""
+    copy = disk.path.parent / "tried"
+    shutil.copytree(disk.path, copy, ignore=shutil.ignore_patterns("lost+found"))
+    found = [(copy / "s").stat().st_size]
+    for words in commands:
+        run(program, copy, *words.split())
+        found.append((copy / "s").stat().st_size)
+    shutil.rmtree(copy)
+    return found[0], *(after - before for before, after in zip(found, found[1:]))
+
+
+def layout(length, part, half, short):
+    """How often the cosigner signs `part` and `half`, and by how many bytes its id is longer, so that the commit byte after the
+    record of `short` is the first byte of a new page."""
+    counts = [(parts, halves, more) for parts in range(12) for halves in range(12) for more in range(120)]
+    return next(found for found in counts
+                if (length + found[0] * part + found[1] * half + found[2] + short - 1) % PAGE == 0)
+
+
+def check_new_blocks(program, disk):
+    """The sync of a record fails that reaches into a new block; the next record ends before it, and a signature's record lies in
+    it. No power cut takes the key of that signature back"""
+    yield from new_cosigner(program, disk)
+    parts, halves, more = layout(*growth(program, disk, "cosign s part", "cosign s half", "advance s short"))
+    # Each arc below 128 has one byte.
+    yield from new_cosigner(program, disk, COSIGNER + more * ".1")
+    for number, request_file in enumerate(["part"] * parts + ["half"] * halves):
+        yield from unlike("the key of a signature", signed(program, disk.path, request_file), number)
+    os.sync()
+    keys, length = parts + halves, (disk.path / "s").stat().st_size
+    wanted = (5, "", "mtc: advance: s: Failed\n")
+    yield from unlike("the advance that is stopped", stopped(program, disk, RECORD, ["advance", "s", "long"]), wanted)
+    yield from unlike("its record's pages", written_to(disk) // PAGE, length // PAGE + 1)
+    yield from unlike("the journal's length", (disk.path / "s").stat().st_size, length)
+    yield from unlike("the other advance", run(program, disk.path, "advance", "s", "short"), (0, "advanced 512\n", ""))
+    yield from unlike("the key that signs", signed(program, disk.path, "after"), keys)
+    yield from unlike("the keys after a power cut", disk.cut(lambda copy: used(program, copy)), [*range(keys + 1)])
+    yield from unlike("the next key after a power cut", disk.cut(lambda copy: signed(program, copy, "after")), keys + 1)
+
+
+CHECKS = (check_commit_byte, check_mapped, check_large, check_record, check_first, check_tiles, check_tiles_anew, check_key, check_new_blocks)
 
 
 def missing():
@@ -249,7 +379,7 @@ def main(words):
         if not shutil.which(make[0]):
             print(f"left out: failed_sync of {system}: {make[0]} isn't here")
             continue
-        for check in (check_commit_byte, check_record, check_first, check_tiles, check_key):
+        for check in [check for check in CHECKS if not words[1:] or check.__name__.removeprefix("check_") in words[1:]]:
             folder = Path(tempfile.mkdtemp())
             disk = Disk(folder, system)
             try:
@@ -257,7 +387,7 @@ def main(words):
             finally:
                 disk.remove()
                 shutil.rmtree(folder)
-            print(f"{'wrong' if wrong else 'ok'}: {system}: {check.__doc__}", *wrong, sep="\n    ")
+            print(f"{'wrong' if wrong else 'ok'}: {system}: {check.__doc__}", *wrong, sep="\n    ", flush=True)
             status |= bool(wrong)
     return status
 

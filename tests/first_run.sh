@@ -142,7 +142,7 @@ fi
 reading=$(sed -n 's/^reading="\(.*\)"$/\1/p' "$root/mtc")
 [ -n "$reading" ] || complain "mtc names no command that only reads files"
 for command in $reading; do
-    grep "^| \`$command[ \`]" "$root/docs/COMMANDS.md" | grep -qvE '\b(journal|secret)\b' || complain "$command isn't reported as one that only reads files"
+    grep "^| \`${command}[ \`]" "$root/docs/COMMANDS.md" | grep -qvE '\b(journal|secret)\b' || complain "$command isn't reported as one that only reads files"
 done
 
 # What is run before the proofs shows with one crate as with all.

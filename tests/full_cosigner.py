@@ -15,89 +15,44 @@ import subprocess
 import sys
 
 from cosignatures import COSIGNER, COSIGNER_ID, LOG, LOG_ID, ROOT, Folder
+from reference import journal, merkle
+from reference.cosigner import Advance, Sign, advance_body, child_body, sign_body
 
 KEYS = 1024
 # LMS_SHA256_M32_H10, or H5 of both levels, and LMOTS_SHA256_N32_W4 (RFC 8554, sections 4.1 and 5.1), after the record's tag.
 ONE_TREE, LOWER_TREES = (0x11, 6, 3), (0x15, 5, 5, 3)
 LOWER_KEYS, H5 = 32, 5
 SECRET = hashlib.sha384(b"full").digest()
+IDS = bytes([len(COSIGNER_ID)]) + COSIGNER_ID + bytes([len(LOG_ID)]) + LOG_ID
 
 
-def hashed(mark, text):
-    return hashlib.sha256(mark + text).digest()
-
-
-def levels_of(leaves):
-    """The hashes of a tree over these leaf hashes, a power of two, level by level (RFC 9162, section 2.1.1)."""
-    levels = [leaves]
-    while len(levels[-1]) > 1:
-        row = levels[-1]
-        levels.append([hashed(b"\1", row[at] + row[at + 1]) for at in range(0, len(row), 2)])
-    return levels
-
-
-def path_in(levels, index):
-    """The inclusion path of a leaf, the lowest hash first."""
-    return [row[index >> level ^ 1] for level, row in enumerate(levels[:-1])]
-
-
-def vector(hashes):
-    return struct.pack(">H", 32 * len(hashes)) + b"".join(hashes)
-
-
-def advance(levels):
-    """The record of an Advance from no entries to all."""
-    return b"\x12" + struct.pack(">Q", len(levels[0])) + levels[-1][0] + vector([])
-
-
-def sign(levels, number, index, node=None):
+def sign(tree, number, index, node=None):
     """The record of a Sign of one entry by the one-time key of this number."""
-    signed = struct.pack(">IQQ", number, index, index + 1) + (node or levels[0][index])
-    return b"\x13" + signed + vector(path_in(levels, index))
-
-
-def child(number):
-    """The record of a lower tree."""
-    return b"\x14" + struct.pack(">II", number, H5)
+    return sign_body(Sign(number, index, index + 1, node or tree.hash(index, index + 1), tree.path(index, 0, KEYS)))
 
 
 def with_children(records):
     """An Advance and the records of signatures, with that of a lower tree before the first signature of each."""
     held, *signs = records
     at = range(0, len(signs), LOWER_KEYS)
-    return [held, *(one for first in at for one in (child(first // LOWER_KEYS), *signs[first:first + LOWER_KEYS]))]
-
-
-def sized(record):
-    return struct.pack(">I", len(record)) + record
-
-
-def cosigner(secret, kind=ONE_TREE):
-    """The first record of a cosigner's journal."""
-    ids = bytes([len(COSIGNER_ID)]) + COSIGNER_ID + bytes([len(LOG_ID)]) + LOG_ID
-    tag, *types = kind
-    return bytes([tag]) + ids + struct.pack(f">{len(types)}I", *types) + secret
-
-
-def journal_of(secret, records, kind=ONE_TREE):
-    """A journal of these records. No cosigner's journal is opened that others may read."""
-    return b"mtc-journal/v1\n\0" + b"".join(b"\1" + sized(one) for one in [cosigner(secret, kind), *records]) + b"\0"
+    return [held, *(one for first in at for one in (child_body(first // LOWER_KEYS, H5), *signs[first:first + LOWER_KEYS]))]
 
 
 def write_journal(path, secret, records, kind=ONE_TREE):
-    path.write_bytes(journal_of(secret, records, kind))
+    """A journal of these records. No cosigner's journal is opened that others may read."""
+    tag, *types = kind
+    path.write_bytes(journal.written([bytes([tag]) + IDS + struct.pack(f">{len(types)}I", *types) + secret, *records]))
     path.chmod(0o600)
 
 
 def export_of(key, records):
     """What `export` writes of these records, with this public key."""
-    ids = bytes([len(COSIGNER_ID)]) + COSIGNER_ID + bytes([len(LOG_ID)]) + LOG_ID
-    return ids + struct.pack(">H", len(key)) + key + b"".join(map(sized, records))
+    return IDS + struct.pack(">H", len(key)) + key + b"".join(struct.pack(">I", len(one)) + one for one in records)
 
 
-def request_to_sign(levels, index):
-    span = struct.pack(">QQ", index, index + 1)
-    return bytes([len(LOG_ID)]) + LOG_ID + span + levels[0][index] + vector(path_in(levels, index))
+def request_to_sign(tree, index):
+    """The fields of a record of a signature, but for its tag and the number of the key, after the id of the log."""
+    return bytes([len(LOG_ID)]) + LOG_ID + sign(tree, 0, index)[5:]
 
 
 class FullCosigner(Folder):
@@ -105,8 +60,9 @@ class FullCosigner(Folder):
 
     def __init__(self, program):
         super().__init__(program)
-        self.levels = levels_of([hashed(b"\0", struct.pack(">Q", at)) for at in range(KEYS)])
-        self.records = [advance(self.levels)] + [sign(self.levels, at, at) for at in range(KEYS)]
+        self.tree = merkle.List(struct.pack(">Q", at) for at in range(KEYS))
+        held = advance_body(Advance(KEYS, self.tree.hash(0, KEYS), []))
+        self.records = [held] + [sign(self.tree, at, at) for at in range(KEYS)]
         self.wrong = []
         write_journal(self.path / "full", SECRET, self.records)
         (self.path / "secret").write_bytes(SECRET)
@@ -134,20 +90,20 @@ def check_export(full):
 def check_conflicts(full):
     """Signatures of one interval: with one hash they agree, and another hash has no proof."""
     held = full.records[:1]
-    same = [sign(full.levels, number, 5) for number in range(KEYS)]
+    same = [sign(full.tree, number, 5) for number in range(KEYS)]
     full.expect_quarrel("one subtree again and again", held + same, (0, b"agree\n", ""))
-    other = sign(full.levels, KEYS - 1, 5, full.levels[0][6])
+    other = sign(full.tree, KEYS - 1, 5, full.tree.hash(6, 7))
     refused = (2, b"", f"mtc: quarrel: export: BadRecord {KEYS + 1}\n")
     full.expect_quarrel("the last of another hash", [*held, *same[:-1], other], refused)
 
 
 def check_keys(full):
     """No key is left, and no record has the number of one more."""
-    (full.path / "request").write_bytes(request_to_sign(full.levels, 5))
+    (full.path / "request").write_bytes(request_to_sign(full.tree, 5))
     before = (full.path / "full").read_bytes()
     full.expect("cosign", full.refusal("cosign", "full", "request"), (4, b"", "mtc: cosign: Exhausted\n"))
     full.expect("the journal", (full.path / "full").read_bytes(), before)
-    more = [*full.records, sign(full.levels, KEYS, 5)]
+    more = [*full.records, sign(full.tree, KEYS, 5)]
     refused = (2, b"", f"mtc: quarrel: export: BadRecord {KEYS + 2}\n")
     full.expect_quarrel("a signature more than there are keys", more, refused)
 
@@ -162,9 +118,9 @@ def check_lower_trees(full):
     full.expect("child", full.refusal("child", "lower"), (4, b"", "mtc: child: Exhausted\n"))
     full.expect("the journal of lower trees", (full.path / "lower").read_bytes(), before)
     refused = (2, b"", f"mtc: quarrel: export: BadRecord {len(records) + 1}\n")
-    for name, more in (("a signature", sign(full.levels, KEYS, 5)), ("a lower tree", child(KEYS // LOWER_KEYS))):
+    for name, more in (("a signature", sign(full.tree, KEYS, 5)), ("a lower tree", child_body(KEYS // LOWER_KEYS, H5))):
         full.expect_quarrel(f"{name} more than there are keys", [*records, more], refused, full.lower_key)
-    early = [*records[:LOWER_KEYS + 1], child(1)]
+    early = [*records[:LOWER_KEYS + 1], child_body(1, H5)]
     refused = (2, b"", f"mtc: quarrel: export: BadRecord {LOWER_KEYS + 2}\n")
     full.expect_quarrel("a lower tree before the last signature of the one before it", early, refused, full.lower_key)
 

@@ -97,6 +97,8 @@ def main(words):
             counted = ", ".join(f"{count} of status {code}" for code, count in counts)
             print(f"{'wrong' if wrong or counts[0][0] else 'ok'}: {kind.__doc__}: {counted}", *wrong[:5], sep="\n    ")
             status |= bool(wrong or counts[0][0])
+    if not single_bytes.IS_WHOLE:
+        print(f"left out: hostile_files: all but {len(single_bytes.BYTES)} of the 256 values of a byte")
     return status
 
 

@@ -3,16 +3,17 @@
 them, and what audits say, with what is made again from the entries.
 
 Over real files.
-Usage: tests/landmarked_log.py
+Usage: tests/landmarked_log.py [PROGRAM]
 """
 
 import hashlib
 import shutil
 import subprocess
 import sys
+from pathlib import Path
 
 from cosignatures import ROOT, Folder, items, tree_hash
-from cosigned_log import COSIGNERS, FIRST, LOG, CosignedLog, element, p256_keys, parts, path_of, secret_of, vector
+from cosigned_log import COSIGNERS, LOG, CosignedLog, element, p256_keys, parts, path_of, vector
 
 # The sizes at the landmarks, how many of these are active, and the size of the log.
 SIZES, ACTIVE, SIZE = [1, 5, 9, 22, 40], 3, 43
@@ -86,14 +87,6 @@ class LandmarkedLog(CosignedLog):
     def trusting(self, changed=None):
         return f'[log]\nid = "{LOG}"\n{self.tables(changed)}'.encode()
 
-    def audited(self, cert, store, text, export=b""):
-        """The status of `audit`, and what it writes."""
-        for name, file in (("c", cert), ("store", store), ("items", text), ("export", export)):
-            self.write(name, file)
-        words = [self.program, "audit", "c", "store", str(FIRST), "items", "export"]
-        ended = subprocess.run(words, cwd=self.path, capture_output=True)
-        return f"{ended.returncode} {(ended.stdout + ended.stderr).decode()}".strip()
-
 
 def check_lists(log):
     """The list of the active landmarks, and the tables that are made of it."""
@@ -136,14 +129,6 @@ def cosigned_cert(log, index, span):
     return log.run("cert", "j", str(index), *map(str, span), "signatures")
 
 
-def unsigned_export(log):
-    """What the first cosigner would export had it signed nothing."""
-    log.write("secret", secret_of(COSIGNERS[0]))
-    log.run("init-cosigner", "unsigned", COSIGNERS[0], LOG, "10", "4", "secret")
-    log.run("advance", "unsigned", "advance")
-    return log.run("export", "unsigned")
-
-
 def check_landmark_audits(log, index):
     """Audits of a certificate that is accepted by a landmark."""
     (start, end), store = covering(index), log.trusting()
@@ -169,18 +154,14 @@ def check_cosigner_audits(log, index):
     short, wanted = log.run("entries", "j", str(SIZE - 1)), log.hash((0, SIZE)).hex()
     log.expect("the last item left out", log.audited(cert, store, short, own),
                f"3 foreign {wanted} {hashes_of(items(short))}")
-    log.cosigned("32473.9")
-    for name, export in (("nothing kept", b""), ("no signature kept", unsigned_export(log)),
-                         ("one that the store doesn't know", log.run("export", "32473.9"))):
-        log.expect(name, log.audited(cert, store, log.text, export), "3 unrecorded")
 
 
-def main():
-    built = subprocess.run([ROOT / "mtc", "member", ROOT / "examples/first.member"],
-                           stdout=subprocess.DEVNULL)
-    if built.returncode:
+def main(words):
+    program = Path(words[0]).resolve() if words else ROOT / "crates/mtc_main/out/mtc_main"
+    if not words and subprocess.run([ROOT / "mtc", "member", ROOT / "examples/first.member"],
+                                    stdout=subprocess.DEVNULL).returncode:
         return 70
-    log = LandmarkedLog(ROOT / "crates/mtc_main/out/mtc_main")
+    log = LandmarkedLog(program)
     for check in (check_lists, check_certificates):
         check(log)
     for check in (check_landmark_audits, check_cosigner_audits):
@@ -191,4 +172,4 @@ def main():
 
 
 if __name__ == "__main__":
-    sys.exit(main())
+    sys.exit(main(sys.argv[1:]))

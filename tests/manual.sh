@@ -32,7 +32,7 @@ as_roff() {
 
 man_page() {
     printf '.\\" Made by tests/manual.sh from docs/COMMANDS.md.\n'
-    printf '.TH MTC 1\n.SH NAME\nmtc \\- authority, cosigners and relying party for Merkle Tree Certificates\n'
+    printf '.TH MTC 1\n.SH NAME\nmtc \\- authority, cosigners, mirrors, relying parties, auditors and monitors for Merkle Tree Certificates\n'
     printf '.SH SYNOPSIS\n.B mtc\n.I COMMAND ARGUMENT\\fR..\n.SH DESCRIPTION\n'
     awk '/^All arguments are positional/' "$page" | as_roff
     printf '.SH COMMANDS\n'
@@ -48,14 +48,21 @@ man_page() {
         printf '.TP\n.B %s\n' "$status"
         printf '%s.\n' "$comes" | as_roff
     done
+    printf '.SH REFUSALS\nBy the name in the line on standard error, or after refused: what to do. OPERATIONS is docs/OPERATIONS.md.\n'
+    table Name 'What to do' | while IFS='|' read -r names advice; do
+        printf '.TP\n'
+        printf '%s\n%s.\n' "$names" "$advice" | as_roff
+    done
     printf '.SH FILES\n'
     table File 'Made by' docs/OPERATIONS.md | sed -E 's/ \(\[[^]]*\]\([^)]*\)\)//g' | while IFS='|' read -r file makers keepers lost; do
         printf '.TP\n'
         printf '%s\nMade by: %s. Kept by: %s. If it is lost: %s.\n' "$file" "$makers" "$keepers" "$lost" | as_roff
     done
+    printf '.SH REQUIREMENTS\n'
+    sed -n 's/^\*\*What it runs on\.\*\* //p' docs/OPERATIONS.md | as_roff
     printf '.SH EXAMPLES\nA day of each, in a clone with a built program; %s explains the steps.\n' docs/EACH_DAY.md
     examples
-    printf '.SH SEE ALSO\nIn the repository: docs/TOUR.md, docs/COMMANDS.md (each refusal), docs/FORMATS.md (each file),\n'
+    printf '.SH SEE ALSO\nIn the repository and in a release: docs/TOUR.md, docs/COMMANDS.md (each command), docs/FORMATS.md (each file),\n'
     printf 'docs/OPERATIONS.md, docs/PROMISES.md.\n'
 }
 
@@ -71,11 +78,11 @@ completion() {
     local names
     names=$(table Command 'It does' | tr -d '`' | sed 's/[ |].*//' | paste -sd' ')
     echo '# Completes the arguments of mtc in bash: source docs/mtc.bash. Made by tests/manual.sh from docs/COMMANDS.md.'
-    echo '# shellcheck shell=bash disable=SC2207'
+    echo '# shellcheck shell=bash'
     echo '_mtc() {'
     echo '    local word=${COMP_WORDS[COMP_CWORD]} kinds=()'
     echo '    if [ "$COMP_CWORD" -eq 1 ]; then'
-    echo "        COMPREPLY=(\$(compgen -W '$names' -- \"\$word\"))"
+    echo "        mapfile -t COMPREPLY < <(compgen -W '$names' -- \"\$word\")"
     echo '        return'
     echo '    fi'
     echo '    case ${COMP_WORDS[1]} in'
@@ -84,9 +91,9 @@ completion() {
     done
     echo '    esac'
     echo '    case ${kinds[COMP_CWORD - 2]-} in'
-    echo '        J | S | M | FILE | CERT | STORE | REQUEST | REQUESTS | SECRET | SIGNATURES | LIST | ENTRIES | EXPORT | STATE | WATCH) COMPREPLY=($(compgen -f -- "$word")) ;;'
-    echo "        HEIGHT | TOP | LOW) COMPREPLY=(\$(compgen -W '5 10' -- \"\$word\")) ;;"
-    echo "        WIDTH) COMPREPLY=(\$(compgen -W '1 2 4 8' -- \"\$word\")) ;;"
+    echo '        J | S | M | FILE | CERT | STORE | REQUEST | REQUESTS | SECRET | SIGNATURES | LIST | ENTRIES | EXPORT | STATE | WATCH) mapfile -t COMPREPLY < <(compgen -f -- "$word") ;;'
+    echo "        HEIGHT | TOP | LOW) mapfile -t COMPREPLY < <(compgen -W '5 10' -- \"\$word\") ;;"
+    echo "        WIDTH) mapfile -t COMPREPLY < <(compgen -W '1 2 4 8' -- \"\$word\") ;;"
     echo '        *) COMPREPLY=() ;;'
     echo '    esac'
     echo '}'
@@ -113,13 +120,13 @@ listing() {
     echo '";'
 }
 
-# What the completion offers for some arguments, of which the last one isn't whole.
+# What the completion offers for some arguments, of which the last one isn't whole: one word a line.
 offers() (
     # shellcheck source=/dev/null
     source docs/mtc.bash
     COMP_WORDS=(mtc "$@") COMP_CWORD=$#
     _mtc
-    echo "${COMPREPLY[*]}"
+    printf '%s\n' "${COMPREPLY[@]}"
 )
 
 man_page >"$folder/mtc.1"
@@ -137,9 +144,17 @@ if command -v groff >"$folder/void"; then
 else
     echo "left out: manual: groff isn't here, so the form of the man page isn't tested"
 fi
-[ "$(offers ver)" = "verify version" ] || complain "the completion of ver"
-[ "$(offers keygen 5 '')" = "1 2 4 8" ] || complain "the completion of a width"
+[ "$(offers ver)" = $'verify\nversion' ] || complain "the completion of ver"
+[ "$(offers keygen 5 '')" = $'1\n2\n4\n8' ] || complain "the completion of a width"
 [ "$(offers show docs/mtc.b)" = docs/mtc.bash ] || complain "the completion of a file"
+touch "$folder/a b.cert" "$folder/a c.cert"
+[ "$(offers show "$folder/a " | sort)" = "$folder/a b.cert"$'\n'"$folder/a c.cert" ] || complain "the completion of names with spaces"
+[ -z "$(offers show "$folder/none")" ] || complain "the completion of a file that isn't there"
+if command -v shellcheck >"$folder/void"; then
+    shellcheck -S warning docs/mtc.bash || complain "docs/mtc.bash"
+fi
+# Each name of a refusal that a line of What to do begins with stands in the man page.
+grep -q '^\.SH REFUSALS$' docs/mtc.1 && grep -q 'fBNotCovered' docs/mtc.1 || complain "the refusals in the man page"
 
 # The program and the table. A program that can't be built is not asked again for each command.
 ./mtc member examples/first.member >/dev/null || exit 70

@@ -11,7 +11,7 @@ another log. A cosigner advances by requests too. A part of the commands that ad
 at drawn times: then the record is there or it isn't. Where it is, what was printed is a prefix of
 what the command prints, and where it isn't, nothing was printed. Over real files.
 Usage: tests/mirrored_log.py [STEPS [NUMBER]]    so many steps, 150 if nothing is said, drawn from
-       this number, 0 if nothing is said
+       this number, that of the day since 1970 in UTC if nothing is said
 """
 
 import random
@@ -334,13 +334,13 @@ class Mirrored(Folder):
 def main(words):
     if subprocess.run([ROOT / "mtc", "member", ROOT / "examples/first.member"], stdout=subprocess.DEVNULL).returncode:
         return 70
-    steps, number = int(words[0]) if words else 150, int(words[1]) if words[1:] else 0
+    steps, number = int(words[0]) if words else 150, int(words[1]) if words[1:] else int(time.time()) // (24 * 60 * 60)
     played = Mirrored(ROOT / "crates/mtc_main/out/mtc_main", number)
     played.play(steps)
     done = ", ".join(f"{count} {name}: {how}" for (name, how), count in sorted(played.counts.items(), key=str))
     held = played.held()
     shutil.rmtree(played.path)
-    print(*played.wrong[:9], f"{steps} steps of a mirror with {held.size} entries, {held.tiled} tiled: {done}", sep="\n")
+    print(*played.wrong[:9], f"{steps} steps drawn by number {number}, of a mirror with {held.size} entries, {held.tiled} tiled: {done}", sep="\n")
     return bool(played.wrong)
 
 

@@ -8,8 +8,8 @@ Usage: tests/reference_pages.py            says which pages are not what it make
 import sys
 
 import beliefs
-from checks import comments, ledger, places
-from checks.citations import CRATES
+from checks import comments, places
+from checks.citations import CRATES, below
 from checks.sources import ROOT
 
 FOLDER = ROOT / "docs" / "reference"
@@ -156,7 +156,7 @@ def clauses_page():
 def named_needs(name):
     """The crates that one names, but those on which another of them stands; and the kit's."""
     needs = [need for need in CRATES[name].needs if need in CRATES]
-    under = set().union(*(ledger.below(need) for need in needs))
+    under = set().union(*(below(need) for need in needs))
     kit = [need for need in CRATES[name].needs if need not in CRATES]
     said = [", ".join(map(code, (need for need in needs if need not in under))), "kit's " + ", ".join(map(code, kit)) if kit else ""]
     return "; ".join(filter(None, said))
@@ -184,7 +184,8 @@ def pages():
 
 def parts():
     """The parts of pages by hand that are made: (page, its mark, what stands there)."""
-    return [("BELIEFS.md", "trusted", beliefs.summary()), ("CONTRIBUTING.md", "places", places.table())]
+    return [("BELIEFS.md", "trusted", beliefs.summary()), ("BELIEFS.md", "edits", beliefs.edits_summary()),
+            ("CONTRIBUTING.md", "places", places.table())]
 
 
 def with_part(text, mark, part):
@@ -200,9 +201,11 @@ def made():
     """(path, what it should be) for each page; nothing in the place of the text where a part has no place."""
     for name, page in pages().items():
         yield FOLDER / name, page()
-    for name, mark, part in parts():
-        path = ROOT / "docs" / name
-        yield path, with_part(path.read_text(), mark, part)
+    for name in sorted({name for name, _, _ in parts()}):
+        text = (ROOT / "docs" / name).read_text()
+        for _, mark, part in (one for one in parts() if one[0] == name):
+            text = text and with_part(text, mark, part)
+        yield ROOT / "docs" / name, text
 
 
 def differences():
@@ -223,6 +226,14 @@ def write():
     for path, text in made():
         if text is not None:
             path.write_text(text)
+
+
+def renew_edits():
+    """Writes what pages say of edits, and nothing else of them."""
+    page, title = FOLDER / "TRUSTED.md", "\n## Edits by crate\n"
+    page.write_text(page.read_text().split(title)[0] + title + beliefs.page(MADE).split(title)[1])
+    page = ROOT / "docs" / "BELIEFS.md"
+    page.write_text(with_part(page.read_text(), "edits", beliefs.edits_summary()))
 
 
 def main(words):

@@ -208,6 +208,8 @@ def main():
     reported = ", ".join(f"{count} {kind}" for kind, count in sorted(counts.items()))
     print(*wrong[:20], f"{'wrong' if wrong else 'ok'}: {sum(counts.values())} allocations of {len(commands or COMMANDS)} commands "
           f"over memory were refused in turn{sample}: {reported}", sep="\n")
+    if day is not None:
+        print(f"left out: refused_growth: {ONE_IN - 1} of {ONE_IN} allocations (day {day})")
     return int(bool(wrong))
 
 

@@ -147,7 +147,7 @@ def one_tile(folder):
 def check_kills(folder, kills):
     """`tile` and `tile-anew` are killed at random times: the log opens each time with its root, and is tiled then or by the next
     `tile`; what `tile-anew` left undone the next one does"""
-    span, reported, kept = sorted(one_tile(folder) for _ in range(5))[2], 0, 0
+    span, reported, kept, cut = sorted(one_tile(folder) for _ in range(5))[2], 0, 0, 0
     root = folder.run(["checkpoint", "j"])
     for number in range(kills):
         folder.long_log(1024)
@@ -155,6 +155,7 @@ def check_kills(folder, kills):
         time.sleep(random.uniform(0, span))
         process.kill()
         line = process.communicate()[0].decode()
+        begun = (folder.path / "j.tiles").exists()
         yield from unlike(f"checkpoint after kill {number}", folder.run(["checkpoint", "j"]), root)
         again = folder.run(["tile", "j"])
         if again == (4, "", "mtc: tile: NothingNew\n"):
@@ -162,6 +163,7 @@ def check_kills(folder, kills):
         else:
             yield from unlike(f"tile after kill {number}", again, (0, "tiled 1024\n", ""))
             yield from unlike(f"what was said before kill {number}", line, "")
+            cut += begun
         whole = folder.bytes("j.tiles")
         (folder.path / "j.tiles").write_bytes(whole[:random.randrange(len(whole))])
         process = folder.start(["tile-anew", "j"])
@@ -174,7 +176,9 @@ def check_kills(folder, kills):
         yield from unlike(f"checkpoint over tiles {number}", folder.run(["checkpoint", "j"]), root)
         # So that some three of ten end, however long a `tile` takes by now.
         span = min(span * (0.8 if line else 1.1), 10)
-    folder.notes.append(f"{kills} times, {reported} acknowledged, {kept - reported} not acknowledged and there")
+    # Of many some are cut in the middle; of few at least one has to come before the record.
+    yield from unlike("a kill came before the record, and of 30 one in the middle", (kept < kills, cut > 0 or kills < 30), (True, True))
+    folder.notes.append(f"{kills} times, {reported} acknowledged, {kept - reported} not acknowledged and there, {cut} cut in the middle")
 
 
 def main(words):

@@ -12,12 +12,16 @@ import sys
 import time
 from pathlib import Path
 
-from users import csr, hours, lists, mirrored, published, readable, released, tls
+from users import authority, cosigned, cosigners, csr, hours, installed, lists, mirrored, monitors, published, readable, released, stops, tls
 from users.scene import ROOT, LeftOut, Scene
 
 CHECKS = [csr.check_requests, csr.check_hostile_requests, lists.check_request_lists, published.check_published, published.check_refused_to_publish,
-          published.check_proved_by_go, readable.check_entries_to_certs, hours.check_authority_hour, hours.check_cosigner_day, mirrored.check_take_entries,
-          released.check_units, released.check_container, released.check_release, tls.check_tls]
+          published.check_proved_by_go, readable.check_entries_to_certs, hours.check_authority_hour,
+          *authority.CHECKS, *cosigned.CHECKS, *monitors.CHECKS, *stops.CHECKS, *installed.CHECKS,
+          hours.check_cosigner_day, mirrored.check_take_entries,
+          cosigners.check_note, cosigners.check_torn_requests, cosigners.check_mirror_day,
+          released.check_units, released.check_container, released.check_machine, released.check_release,
+          tls.check_tls]
 
 
 def tried(check, program):

@@ -239,6 +239,13 @@ def check_refusals():
         yield f"docs/COMMANDS.md: nothing prints `{name}`"
 
 
+@cache
+def below(name):
+    """The crates of this repository that a crate stands on, also through others."""
+    found = {need for need in CRATES[name].needs if need in CRATES}
+    return sorted(found.union(*(below(need) for need in found)))
+
+
 def in_order():
     """The crates, each after those that it stands on; else in the order of crates.txt."""
     found = []

@@ -1,13 +1,18 @@
-"""Checks of the sources: lengths, columns, heads of files, comments and their words, names that are imported and not used, edits;
-and how many words stand in pages by hand."""
+"""Checks of the sources: lengths, columns, comments, names that are imported and not used, edits; and of how many words a page has."""
 
 import re
+import shutil
+import subprocess
+import sys
 
-from . import comments, ledger
+from . import comments, edited, ledger, named
 from .citations import CRATES
-from .pages import DOCS, PRIVATE_IN_COMMENTS, PRIVATE_WORDS, QUOTED, QUOTING, blocks_of, by_hand, private_words_in, shown
+from .contracts import contract_of
+from .pages import DOCS, shown, tracked
 from .sources import ROOT
-from .words import private_names
+
+sys.path.append(str(ROOT / "bench"))
+import gate_costs
 
 LIMITS = ROOT / "tests" / "limits.txt"
 MOST_LINES = 500
@@ -60,14 +65,14 @@ def check_errors():
 
 def promised(source):
     """The contracts of a file, without the values of its constants."""
-    return re.sub(r"\bconst (\w+: [^=;]*)=[^;]*;", r"const \1;", ledger.contract_of(source))
+    return re.sub(r"\bconst (\w+: [^=;]*)=[^;]*;", r"const \1;", contract_of(source))
 
 
 def fault_of(crate, edit):
     """Why an edit can't be made or shows nothing, or nothing. Its changes are made one after the other, as `rt` makes
     them."""
     texts = {}
-    for file, old, new in ledger.changes_of(edit):
+    for file, old, new in edited.changes_of(edit):
         path = crate.folder / file
         text = texts.get(file) or (path.read_text() if path.is_file() else "")
         if not old or text.count(old) != 1:
@@ -83,16 +88,16 @@ def fault_of(crate, edit):
 
 def strays():
     """What stands beside the edits: a file that is none, or the folder of no crate."""
-    for folder in (folder for name in CRATES for folder in ledger.folders_of(name) if folder.is_dir()):
+    for folder in (folder for name in CRATES for folder in edited.folders_of(name) if folder.is_dir()):
         yield from (path for path in sorted(folder.iterdir()) if path.suffix != ".edit" or not path.is_file())
-    for path in sorted(ledger.EDITS.iterdir()):
-        if path not in (ledger.LEDGER, ledger.DUE) and not (path.is_dir() and path.name in CRATES):
+    for path in sorted(edited.EDITS.iterdir()):
+        if path != ledger.LEDGER and not (path.is_dir() and path.name in CRATES):
             yield path
 
 
 def counts_wrong(name):
     """Why a crate has too many edits."""
-    count, in_the_gate = len(ledger.edits_of(name)), len(list(ledger.folders_of(name)[0].glob("*.edit")))
+    count, in_the_gate = len(edited.edits_of(name)), len(list(edited.folders_of(name)[0].glob("*.edit")))
     if count > ledger.MOST:
         yield f"{name}: has {count} edits, and {ledger.MOST} are the most"
     if in_the_gate > ledger.MOST_IN_THE_GATE:
@@ -103,7 +108,7 @@ def check_edits():
     """each edit can be made: what it takes away stands once in its file; it changes bodies alone; a crate has few"""
     for name, crate in CRATES.items():
         names = set()
-        for edit in ledger.edits_of(name):
+        for edit in edited.edits_of(name):
             why = fault_of(crate, edit) or ("stands in both folders" if edit.name in names else None)
             names.add(edit.name)
             if why:
@@ -157,46 +162,6 @@ def occurrence(name):
     return rf"(?<![\w-]){escaped}(?![\w-])" if re.fullmatch(r"[\w-]+", sign) else escaped
 
 
-def bare_heads():
-    """(crate, what) for each file of src that doesn't begin by saying what it is."""
-    for name, path in code_files("src"):
-        head = path.read_text().split("\n")[0]
-        if not re.match(r"//! [A-Z`].*", head):
-            yield name, f"{shown(path)}: {head[:60]}"
-
-
-COMMENT = {".rt": re.compile(r"\s*//[/!]?(.*)"), ".antt": re.compile(r"\s*--(?: (.*))?$")}
-BESIDE_CODE = {".rt": re.compile(r'[^"]*?\S\s+//(.*)'), ".antt": re.compile(r'[^"]*?\S\s+-- (.*)')}
-
-
-def comments_in(path):
-    """(line, text) for each run of comment lines, and for each comment beside code. So a phrase may end in the next line."""
-    found, begin = [], 0
-    for number, line in enumerate(path.read_text().split("\n") + [""], 1):
-        alone = COMMENT[path.suffix].match(line)
-        beside = None if alone else BESIDE_CODE[path.suffix].match(line)
-        if alone:
-            begin = begin if found else number
-            found.append(alone.group(1) or "")
-        elif found:
-            yield begin, "\n".join(found)
-            found = []
-        if beside:
-            yield number, beside.group(1)
-
-
-def private_words():
-    """(page or crate, what) for each private word in a page, and in a comment of a crate."""
-    for page in by_hand():
-        if page.name != "GLOSSARY.md":
-            for line, text in blocks_of(page):
-                yield from ((page.name, f"{shown(page, line)}: {word}; {plain}") for word, plain, _ in private_words_in(text))
-    for name, path in code_files("src", "specs", "proofs"):
-        for begin, text in comments_in(path):
-            for word, plain, below in private_words_in(text, {**PRIVATE_WORDS, **PRIVATE_IN_COMMENTS}):
-                yield name, f"{shown(path, begin + below)}: {word}; {plain}"
-
-
 def bare_definitions(crate):
     """The definitions of which nothing is said, nor of those before them; and the files of specs/ that begin with nothing."""
     for path in sorted((crate.folder / "specs").rglob("*.antt")):
@@ -216,11 +181,30 @@ def without_comment():
         yield from ((name, what) for what in bare_definitions(crate))
 
 
-# What scripts make in pages by hand, and whose words always have a limit.
-MADE = ("commands", "costs", "layers", "places", "rates", "ratios", "sizes", "times", "trusted")
-COUNTED = ("by_hand", "BELIEFS.md", "PROMISES.md")
-LIMITED = {"lengths": long_parts, "columns": wide_lines, "imports": unused_names, "heads": bare_heads,
-           "comments": without_comment, "vocabulary": private_words, "private_names": private_names}
+def warnings_of_scripts():
+    """(script, what) for each warning of shellcheck on the shell scripts."""
+    scripts = [path for path in tracked() if path.suffix in ("", ".sh") and re.match(rb"#!/bin/(ba)?sh\b", path.read_bytes()[:12])]
+    if shutil.which("shellcheck"):
+        said = subprocess.run(["shellcheck", "-S", "warning", "-f", "gcc", *scripts], cwd=ROOT, capture_output=True, text=True, check=False).stdout
+        yield from ((line.split(":")[0].removeprefix(f"{ROOT}/"), line) for line in said.split("\n") if line)
+
+
+def waiting_edits():
+    """("edits", what) for each edit without a line in force."""
+    yield from (("edits", f"{key}: {ledger.why_it_waits(key)}") for key in ledger.waiting())
+
+
+def without_costs():
+    """(crates or checks, what) for each crate and check without a row in bench/COSTS.md, and each row without one."""
+    yield from ((kind, f"{name} stands in one of {source} and bench/COSTS.md alone") for (kind, names), source in
+                zip(gate_costs.differing().items(), ("crates.txt", ".ci/run")) for name in names)
+
+
+# What scripts make in a page by hand is left out of its words.
+MADE = re.compile(r"<!-- (\w+): begin.*?<!-- \1: end -->", re.S)
+COUNTED = ("BELIEFS.md", "PROMISES.md")
+LIMITED = {"lengths": long_parts, "columns": wide_lines, "imports": unused_names, "comments": without_comment, "costs": without_costs,
+           "waiting": waiting_edits, "scripts": warnings_of_scripts, "chain": named.longest_chain}
 
 
 def by_crate(check):
@@ -258,9 +242,9 @@ def check_imports():
     yield from over_limit("imports")
 
 
-def check_heads():
-    """files of src begin with a sentence on what they are"""
-    yield from over_limit("heads")
+def check_chain():
+    """no chain of crates, each of which stands on the one before, is longer than tests/limits.txt lets it be"""
+    yield from over_limit("chain")
 
 
 def check_comments():
@@ -268,45 +252,42 @@ def check_comments():
     yield from over_limit("comments")
 
 
-def check_vocabulary():
-    """pages and comments use the field's words"""
-    yield from over_limit("vocabulary")
+def check_scripts():
+    """shellcheck has no warning on a shell script"""
+    yield from over_limit("scripts")
 
 
-def check_private_names():
-    """names, strings of tests, and scripts of tests/ and bench/ use the field's words"""
-    yield from over_limit("private_names")
+def remarks_of_scripts():
+    return [] if shutil.which("shellcheck") else ["left out: scripts: shellcheck isn't here"]
 
 
-def counts():
-    """How many words stand in pages by hand, and how many in those that have a limit of their own. What a script makes is left
-    out, and what is quoted of the sources and compared with them."""
-    made = re.compile(rf"<!-- ({'|'.join(MADE)}): begin.*?<!-- \1: end -->", re.S)
-    quoted = re.compile(rf"^```(?:{'|'.join(QUOTED)})$.*?^```$", re.S | re.M)
-    found = {}
-    for page in by_hand():
-        if page.parent == DOCS or page == ROOT / "README.md":
-            text = made.sub("", page.read_text())
-            found[page.name] = len((quoted.sub("", text) if page.name in QUOTING else text).split())
-    return {name: count for name, count in {"by_hand": sum(found.values()), **found}.items() if name in COUNTED}
+def check_waiting():
+    """edits that wait for their try don't grow in number: tests/edits.py --stale tries them"""
+    yield from over_limit("waiting")
 
 
-def check_counts():
-    """pages by hand have no more words than tests/limits.txt lets through"""
-    for name, count in counts().items():
-        most = limits().get(("counts", name), 0)
+def check_costs():
+    """bench/COSTS.md has a row for each crate and each check of .ci/run, and no other"""
+    yield from over_limit("costs")
+
+
+def remarks_of_costs():
+    lacking = [f"{len(lines)} {kind}" for kind, lines in by_crate("costs").items()]
+    return [f"left out: costs: bench/COSTS.md and the sources differ in {' and '.join(lacking)}"] if lacking else []
+
+
+def check_words():
+    """a page whose length counts has no more words than tests/limits.txt lets through"""
+    for name in COUNTED:
+        count, most = len(MADE.sub("", (DOCS / name).read_text()).split()), limits().get(("words", name), 0)
         if count > most:
             yield f"{name} has {count} words, and tests/limits.txt lets {most} through"
 
 
 def lower_limits():
     """Lowers each number to what there is, but how long one page may be. Where there is no number, nothing is let through."""
-    old = limits()
     rows = [line for line in LIMITS.read_text().split("\n") if line.startswith("#")]
-    found = {check: {name: len(lines) for name, lines in by_crate(check).items()} for check in LIMITED}
-    for check, numbers in {**found, "counts": counts()}.items():
-        for name, count in sorted(numbers.items()):
-            most = old.get((check, name), 0)
-            if most:
-                rows.append(f"{check} {name} {most if (check, name[-3:]) == ('counts', '.md') else min(count, most)}")
+    for (check, name), most in sorted(limits().items()):
+        count = most if check == "words" else min(most, len(by_crate(check).get(name, ())))
+        rows += [f"{check} {name} {count}"] * (count > 0)
     LIMITS.write_text("\n".join(rows) + "\n")

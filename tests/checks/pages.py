@@ -1,4 +1,4 @@
-"""Checks of the pages by themselves: sentences, links, quotations, places of a machine, an example."""
+"""Checks of the pages by themselves: links, quotations, places of a machine, an example."""
 
 import re
 import subprocess
@@ -8,7 +8,6 @@ from hashlib import sha256
 from .sources import ROOT
 
 DOCS = ROOT / "docs"
-MOST_WORDS = 40
 
 
 def shown(path, line=None):
@@ -43,112 +42,6 @@ def by_hand():
 
 def cells_of(row):
     return [cell.strip() for cell in re.split(r"(?<!\\)\|", row.strip())[1:-1]]
-
-
-def blocks_of(path):
-    """The prose of a page: (line, text) for each paragraph, item and cell. Code is left out."""
-    fenced, text, begin = False, [], 0
-    for number, line in enumerate(path.read_text().split("\n") + [""], 1):
-        is_fence = line.startswith("```")
-        fenced ^= is_fence
-        is_code = fenced or is_fence or (line.startswith("    ") and not text)
-        if is_code or re.match(r"\s*$|#|[-*] |\d+\. |\|", line):
-            if text:
-                yield begin, " ".join(text)
-            text = []
-        if is_code:
-            continue
-        if line.startswith("|"):
-            cells = [] if re.fullmatch(r"[|\-: ]+", line) else cells_of(line)
-            yield from ((number, cell) for cell in cells)
-            continue
-        line = re.sub(r"^(#+|[-*]|\d+\.) +(\[.\] )?", "", line).strip()
-        if line:
-            begin = begin if text else number
-            text.append(line)
-
-
-def sentences_of(text):
-    """The sentences of a text. What stands in code marks counts as one word, so does a list of it."""
-    text = re.sub(r"`[^`]*`(?:(?:, | and |, and |; )`[^`]*`)*", "Code", text)
-    text = re.sub(r"\[([^\]]*)\]\([^)]*\)", r"\1", text)
-    return re.split(r"(?<=[.!?])[\"')*]*\s+(?=[\"'(*]*[A-Z0-9])", text)
-
-
-# Words of art, and the plain ones in their place. GLOSSARY may name them.
-PLAIN_WORDS = {
-    r"([Ll]ack|[Ww]ant) of memory": "out of memory",
-    r"(mis)?spell(ed|ing|ings|s)": "encoded, encoding",
-    r"steps of the definitions": "what each word means",
-    r"table in line": "inline table",
-}
-
-
-# Words of ours for which the field has others: none of them stands in a page, nor in a comment.
-PRIVATE_WORDS = {
-    r"behind": "after, following",
-    r"(is|are|was|were|be|been|being) told": "is reported, is answered",
-    r"look(s|ed|ing)? at": "read, reads only",
-    r"giv(es?|en|ing) back": "closes, closed",
-    r"st(and|ands|ood|anding) for": "represents",
-    r"rooms?": "file system, or capacity",
-    r"[Ww]ant of memory": "out of memory",
-    r"(mis)?spell(ed|ing|ings|s)?": "encode, encoded, encoding",
-    r"words of (a|the|this|each) command": "arguments",
-    r"moments?": "time, or clock of the device",
-    r"kept": "retained",
-    r"made anew": "rebuilt",
-    r"goes on|go on": "continues",
-    r"besides": "in addition",
-    r"somebody|nobody": "a named agent",
-    r"in front( of)?": "before",
-    r"(?<!-)anew": "again, or rebuilt",
-    r"hand(s|ed|ing)? (out|back|on|over)": "releases, returns, gives",
-    r"settle[sd]?": "durable",
-    r"starve[sd]?": "out of memory",
-    r"fleets?": "drill",
-}
-# Those of scripts and of strings of tests; nobody is a user there, and a room is the name of a trait.
-SCRIPT_WORDS = {word: plain for word, plain in PRIVATE_WORDS.items()
-                if word not in (r"rooms?", r"somebody|nobody", r"kept", r"besides", r"settle[sd]?")}
-# And those that only comments have to do without, since a page may say what a name of the code means.
-PRIVATE_IN_COMMENTS = {
-    r"told|tells?": "is reported; the model knows",
-    r"lent|lends?|lending": "opened, borrowed",
-    r"fronts?": "prefix",
-    r"(?<!of\s)courses?": "execution",
-    r"images?": "crash state",
-    r"gates?": "commit byte",
-}
-
-
-def private_words_in(text, words=None):
-    """(word, what to say for it, in which line of the text) for each private word, code marks left out."""
-    text = re.sub(r"`[^`]*`", lambda match: "\n" * match.group(0).count("\n"), text)
-    for word, plain in (words or PRIVATE_WORDS).items():
-        for match in re.finditer(rf"\b(?:{word})\b".replace(" ", r"\s+"), text, re.I):
-            yield " ".join(match.group(0).split()), plain, text.count("\n", 0, match.start())
-
-
-def check_words():
-    """pages use plain words, code marks left out"""
-    for path in by_hand():
-        for line, text in blocks_of(path):
-            text = re.sub(r"`[^`]*`", "", text)
-            for word, plain in PLAIN_WORDS.items():
-                match = re.search(rf"\b{word}\b", text)
-                if match and path.name != "GLOSSARY.md":
-                    yield f"{shown(path, line)}: {match.group(0)}; {plain}"
-
-
-def check_sentences():
-    """no sentence of a page has more than 40 words"""
-    for path in by_hand():
-        for line, text in blocks_of(path):
-            for sentence in sentences_of(text):
-                count = len(re.findall(r"[\w'.,/^+:-]*\w", sentence))
-                if count > MOST_WORDS:
-                    yield f"{shown(path, line)}: {count} words: {sentence[:60]} .."
 
 
 @cache

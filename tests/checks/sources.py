@@ -9,7 +9,7 @@ ROOT = Path(__file__).resolve().parents[2]
 NAME = r"[A-Za-z_][A-Za-z0-9_]*"
 
 
-@dataclass
+@dataclass(eq=False)
 class Function:
     name: str
     owner: str  # the type or the trait that it stands in, or nothing
@@ -23,6 +23,7 @@ class Function:
     requires: bool = False
     of_trait: bool = False  # it stands in the impl of a trait
     is_test: bool = False
+    span: tuple = ()  # where it begins in its file, where its contract ends, and where its body does
 
 
 @dataclass
@@ -30,8 +31,6 @@ class Definition:
     name: str
     path: Path
     line: int
-    lines: int
-    sentence: str
 
 
 def blanked(text):
@@ -156,6 +155,7 @@ class SourceFile:
             if rest and rest.group(1) == "{":
                 end = after_braces(self.bare, place + rest.end() - 1)
             one.length = self.bare.count("\n", match.start(), end) + 1 - contract
+            one.span = (match.start(), place, end)
             found.append(one)
         return found
 
@@ -179,23 +179,9 @@ DEFINED = re.compile(r"^( *)(?:abbrev pub|unfoldable pub|opaque pub|pub record|p
 
 
 def definitions_of(path):
-    """The public definitions of a file of specs/, each with the sentence above it."""
-    lines = path.read_text().split("\n")
-    found = []
-    for number, text in enumerate(lines):
-        match = DEFINED.match(text)
-        if not match:
-            continue
-        indent, name = match.groups()
-        end = number + 1
-        while end < len(lines) and lines[end].strip() and not lines[end].lstrip().startswith("--"):
-            end += 1
-        begin = number
-        while begin > 0 and lines[begin - 1].strip().startswith("-- "):
-            begin -= 1
-        sentence = " ".join(line.strip()[3:] for line in lines[begin:number])
-        found.append(Definition(name, path, number + 1, end - number, sentence))
-    return found
+    """The public definitions of a file of specs/."""
+    found = ((number, DEFINED.match(text)) for number, text in enumerate(path.read_text().split("\n"), 1))
+    return [Definition(match[2], path, number) for number, match in found if match]
 
 
 class Crate:

@@ -29,6 +29,7 @@ class Command:
     def __init__(self, words, says=None, adds=None, begins=None, again=None, writes_tiles=False):
         self.words, self.says, self.adds, self.begins, self.again = words.split(), says, adds, begins, again
         self.name, self.journal, self.writes_tiles = self.words[0], self.words[1], writes_tiles
+        self.only_asks = not (adds or begins or writes_tiles)
         self.kind = KINDS[begins or self.journal]
         self.mirror = self.words[2] if self.kind == "cosigner" and self.words[2:3] and self.words[2] in MIRRORS else None
         self.journals = [self.journal, *filter(None, [self.mirror])]
@@ -70,6 +71,9 @@ COMMANDS = [
 BEGINNING = [command for command in COMMANDS if command.begins]
 ADDING = [command for command in COMMANDS if command.adds]
 OPENING = [command for command in COMMANDS if not command.begins]
+# Those that only read their journals and tile files.
+ASKING = [command for command in COMMANDS if command.only_asks]
+WRITING = [command for command in COMMANDS if not command.only_asks]
 WITH_TILES = [command for command in COMMANDS if command.tiles]
 ON_LOGS = [command for command in WITH_TILES if command.kind == "log"]
 # The commands that open a file of tiles, by its journal.

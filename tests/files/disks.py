@@ -128,7 +128,8 @@ def check_full(scene, _kills):
 
 
 def check_read_only(scene, _kills):
-    """On a disk that may only be read each command on a journal is status 5 and makes nothing, and inputs are read"""
+    """On a disk that may only be read a command that only asks does its work, any other on a journal is status 5 and makes nothing, and
+    inputs are read"""
     wants_mounts()
     disk = scene.path / "d"
     disk.mkdir()
@@ -142,6 +143,8 @@ def check_read_only(scene, _kills):
         mount("-o", "remount,bind,ro", disk)
         for command in COMMANDS:
             words = [command.name, *(f"d/{word}" if word in before or word == "new" else word for word in command.words[1:])]
-            yield from unlike(command.name, scene.run(words), failed(command.name, words[1]))
+            scene.restore()
+            wanted = scene.run(command.words) if command.only_asks else failed(command.name, words[1])
+            yield from unlike(command.name, scene.run(words), wanted)
         yield from unlike("keygen", scene.run("keygen 5 4 d/secret")[0], 0)
     yield from unlike("the files", {path.name: path.read_bytes() for path in disk.iterdir()} == before, True)

@@ -4,10 +4,12 @@ import signal
 
 from .commands import ADDING, ASKS, BEGINNING, COMMANDS, OPENING, added, asked
 from .folder import failed, locked, unlike
-from .tracing import appending, at_fault, opening, traced, wants_trace
+from .tracing import appending, at_fault, opening, traced, undoing, wants_trace
 
 LOCKS = ["flock:error=EAGAIN", "flock:error=ENOLCK"]
 ERRORS = {"pwrite64": "ENOSPC", "fsync": "EIO", "pread64": "EIO"}
+# What a sync answers where the file system has none, or may only be read.
+NO_SYNC = ("EINVAL", "EROFS")
 
 
 def numbered(calls, before=()):
@@ -59,43 +61,68 @@ def check_faults(scene, _kills):
             yield from unlike(f"files after {command.name} {fault}", (scene.changed(), scene.bytes("new")), (["new"], b""))
 
 
+def check_no_sync(scene, _kills):
+    """On a file system that knows no sync a command that only asks does its work, and any other is status 5"""
+    wants_trace(scene)
+    for command in OPENING:
+        for error in NO_SYNC:
+            scene.restore()
+            ending = at_fault(scene, command.words, f"fsync:error={error}")
+            if command.only_asks:
+                yield from unlike(f"{command.name} {error}", (ending[0], ending[2]), (0, ""))
+            else:
+                yield from unlike(f"{command.name} {error}", ending, failed(command.name, command.journal))
+
+
 def appending_faults(scene, command):
-    """The faults within an append, the file that the line names, and whether the record is there after it."""
-    calls = [*numbered(appending(command), opening(scene, command))]
-    # Only after the write of the commit byte a record is there: it is the last but one of the calls.
-    for kind, number, file in calls:
-        yield f"{kind}:error={ERRORS[kind]}:when={number}", file, (kind, number, file) == calls[-1]
+    """The faults within an append, and the file that the line names."""
+    for kind, number, file in numbered(appending(command), opening(scene, command)):
+        yield f"{kind}:error={ERRORS[kind]}:when={number}", file
 
 
 def check_append(scene, _kills):
-    """A write or a sync that fails within an append is status 5 with nothing printed: the old records, or after the last sync one more"""
+    """A write or a sync that fails within an append is status 5 with nothing printed, and leaves the old records"""
     wants_trace(scene)
     for command in ADDING:
-        for fault, file, is_there in appending_faults(scene, command):
+        for fault, file in appending_faults(scene, command):
             scene.restore()
             what, before = f"{command.name} {fault}", scene.bytes(command.journal)
             yield from unlike(what, at_fault(scene, command.words, fault), failed(command.name, file))
-            yield from unlike(f"the records after {what}", added(scene, command), [command.adds] if is_there else [])
+            yield from unlike(f"the records after {what}", added(scene, command), [])
             yield from unlike(f"the next command after {what}", asked(scene, command), (0, "", True))
             yield from unlike(f"the old bytes after {what}", scene.bytes(command.journal)[:len(before) - 1], before[:-1])
 
 
+def check_undoing(scene, _kills):
+    """After a sync that fails within an append the file is cut off behind the bytes that were synced, and a commit byte is closed again;
+    good bytes are neither cut off nor written"""
+    wants_trace(scene)
+    for command in COMMANDS:
+        calls = [*numbered(appending(command), opening(scene, command))]
+        for place, (kind, number, file) in enumerate(calls):
+            if kind != "fsync":
+                continue
+            scene.restore()
+            wanted = [*opening(scene, command), *appending(command)[:place + 1], *undoing(command, len(calls) - place), "write err"]
+            status, found = traced(scene, command.words, "-e", f"inject=fsync:error=EIO:when={number}")
+            yield from unlike(f"{command.name} fsync {number} of {file}", (status, [call for call, _ in found]), (5, wanted))
+
+
 # What a new file then is, by how many calls of its first append went well: the record's write and its sync, the commit byte's and its.
-NEW_FILES = ["NotJournal", "BadRecord 0", "BadRecord 0", None]
+NEW_FILES = ["NotJournal", "NotJournal", "BadRecord 0", "BadRecord 0"]
 
 
 def check_first_append(scene, _kills):
-    """A write or a sync that fails within the first append of a new journal leaves a file that is empty, has no record yet, or is whole"""
+    """A write or a sync that fails within the first append of a new journal leaves a file that is empty or has no record"""
     wants_trace(scene)
     for command in BEGINNING:
         asks = ASKS[command.kind].format("new")
-        for (fault, file, _), refusal in zip(appending_faults(scene, command), NEW_FILES):
+        for (fault, file), refusal in zip(appending_faults(scene, command), NEW_FILES):
             scene.restore()
             what = f"{command.name} {fault}"
             yield from unlike(what, at_fault(scene, command.words, fault), failed(command.name, file))
             status, _, err = scene.run(asks)
-            wanted = (2, f"mtc: {asks.split()[0]}: new: {refusal}\n") if refusal else (0, "")
-            yield from unlike(f"{asks} after {what}", (status, err), wanted)
+            yield from unlike(f"{asks} after {what}", (status, err), (2, f"mtc: {asks.split()[0]}: new: {refusal}\n"))
             yield from unlike(f"again after {what}", scene.run(command.words), (7, "", command.line("new", "Exists")))
 
 

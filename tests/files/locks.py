@@ -1,12 +1,14 @@
 """Locks, commands at once, and the modes of new files."""
 
 import fcntl
+import shutil
 
-from .commands import COMMANDS, COSIGNER, LOG, OPENING, SIGN, records
+from .commands import ASKING, COMMANDS, COSIGNER, LOG, OPENING, SIGN, records
 from .folder import NEW_LOG, ended, failed, locked, unlike
 
 ROUNDS = 60
 AT_ONCE = 4
+READERS = 10
 
 
 def held(scene, file):
@@ -15,14 +17,18 @@ def held(scene, file):
 
 
 def check_locks(scene, _kills):
-    """A journal or a file of tiles that another process has locked is not opened, and stays as it is; inputs are not locked"""
+    """A journal or a tile file that another process has locked is not opened, and stays as it is, but that commands which only ask
+    read it together; inputs are not locked"""
     for command in OPENING:
         for file in filter(None, (*command.journals, command.tiles)):
             scene.restore()
             for how in (fcntl.LOCK_EX, fcntl.LOCK_SH):
                 with held(scene, file) as lock:
                     fcntl.flock(lock, how)
-                    yield from unlike(f"{command.name} of {file}", scene.run(command.words), locked(command.name, file))
+                    status, out, err = scene.run(command.words)
+                    shares = command.only_asks and how == fcntl.LOCK_SH
+                    wanted = (0, out, "") if shares else locked(command.name, file)
+                    yield from unlike(f"{command.name} of {file}", (status, out, err), wanted)
             yield from unlike(f"files after {command.name} of {file}", scene.changed(), [])
     scene.restore()
     (scene.path / "j.tiles").unlink()
@@ -38,6 +44,47 @@ def check_locks(scene, _kills):
         yield from unlike(f"{command.name} with locked inputs", scene.run(command.words)[0], 0)
         for lock in locks:
             lock.close()
+
+
+def check_readers_at_once(scene, _kills):
+    """Of commands that only ask, given many times at once, none is `Locked`, also where the tile file isn't there at first"""
+    for command in ASKING:
+        for _ in range(5):
+            scene.restore()
+            if command.tiles:
+                (scene.path / command.tiles).unlink()
+            running = [scene.start(command.words) for _ in range(READERS)]
+            endings = [ended(process) for process in running]
+            yield from unlike(command.name, {(status, err) for status, _, err in endings}, {(0, "")})
+            yield from unlike(f"what {command.name} says", len({out for _, out, _ in endings}), 1)
+
+
+def check_owners_readers(scene, _kills):
+    """A command that only asks needs no more than the right to read: of the journal and the tile file of mode 400, in a folder that
+    can't be written; a cosigner's journal must still be closed to others"""
+    inner = scene.path / "d"
+    inner.mkdir()
+    for command in ASKING:
+        for tiled in (True, False):
+            scene.restore()
+            wanted = scene.run(command.words)
+            inner.chmod(0o700)
+            for path in inner.iterdir():
+                path.unlink()
+            for file in filter(None, [command.journal, tiled and command.tiles]):
+                shutil.copy(scene.path / file, inner / file)
+                (inner / file).chmod(0o400)
+                scene.own(inner / file)
+            scene.own(inner)
+            inner.chmod(0o500)
+            before = {path.name: path.read_bytes() for path in inner.iterdir()}
+            words = [command.name, f"d/{command.journal}", *command.words[2:]]
+            yield from unlike(f"{command.name}, tiles {tiled}", scene.run(words), wanted)
+            yield from unlike("the files", {path.name: path.read_bytes() for path in inner.iterdir()}, before)
+            (inner / command.journal).chmod(0o440)
+            wanted = failed(command.name, words[1]) if command.kind == "cosigner" else wanted
+            yield from unlike(f"{command.name} of mode 440", scene.run(words), wanted)
+    inner.chmod(0o700)
 
 
 def check_modes(folder, _kills):

@@ -3,6 +3,7 @@
 import fcntl
 import os
 import shutil
+import subprocess
 from pathlib import Path
 
 from .commands import BY_TILED, COSIGNER, HEADER, LOG, MIRRORS, ON_LOGS, WITH_TILES, records
@@ -12,6 +13,8 @@ from .tracing import traced, wants_trace
 # The longest name of a file on Linux's file systems, and the longest of a new journal, beside which a file of tiles can stand.
 LONGEST = 255
 LONGEST_NEW = LONGEST - len(".tiles")
+# The longest path that Linux takes, without the zero at its end.
+LONGEST_PATH = 4095
 
 
 def check_refusals(folder, _kills):
@@ -30,18 +33,18 @@ def check_refusals(folder, _kills):
             ("member none", 7, "Absent"), ("member r/x", 7, "Absent"), ("member folder", 5, "Failed"),
             ("member loop", 5, "Failed"), ("issue j loop", 5, "Failed"), ("checkpoint loop", 5, "Failed"),
             ("checkpoint none", 7, "Absent"), ("checkpoint r/x", 7, "Absent"), ("checkpoint none/x", 7, "Absent"),
-            ("checkpoint folder", 5, "Failed"), ("checkpoint link", 7, "Absent"), ("checkpoint copy", 5, "Failed"),
+            ("checkpoint folder", 5, "Failed"), ("checkpoint link", 7, "Absent"), ("landmark copy", 5, "Failed"),
             ("init-log none/x 32473.1 2 9", 5, "Failed"), ("init-log r/x 32473.1 2 9", 5, "Failed"),
             ("init-log folder 32473.1 2 9", 7, "Exists"), ("init-log link 32473.1 2 9", 7, "Exists"),
             ("init-log loop 32473.1 2 9", 7, "Exists"),
             ("init-log j 32473.1 2 9", 7, "Exists"), ("issue j folder", 5, "Failed"),
             ("export none", 7, "Absent"), ("export r/x", 7, "Absent"), ("export folder", 5, "Failed"),
-            ("export loop", 5, "Failed"), ("export link", 7, "Absent"), ("export copy", 5, "Failed"),
+            ("export loop", 5, "Failed"), ("export link", 7, "Absent"), ("child copy", 5, "Failed"),
             ("advance j none", 7, "Absent"), ("cosign j folder", 5, "Failed"), ("cosign j none", 7, "Absent"),
             (f"init-cosigner none/x {new}", 5, "Failed"), (f"init-cosigner folder {new}", 7, "Exists"),
             (f"init-cosigner link {new}", 7, "Exists"), (f"init-cosigner j {new}", 7, "Exists"),
             ("mirror-init none/x 32473.1", 5, "Failed"), ("mirror-init folder 32473.1", 7, "Exists"),
-            ("mirror-init j 32473.1", 7, "Exists"), ("mirror-entries none 0", 7, "Absent"), ("mirror-entries copy 0", 5, "Failed"),
+            ("mirror-init j 32473.1", 7, "Exists"), ("mirror-entries none 0", 7, "Absent"), ("mirror-tile copy", 5, "Failed"),
             ("mirror-take j none", 7, "Absent"), ("mirror-take j folder", 5, "Failed"), ("mirror-tile loop", 5, "Failed"),
             ("mirror-advance none j 1", 7, "Absent"), ("mirror-cosign folder j 0 1", 5, "Failed")):
         command, *rest = words.split()
@@ -137,6 +140,8 @@ def other_tiles(scene):
         yield f"a copy of {file}", lambda tiles: shutil.copy(scene.path / file, tiles)
     for file in ("full", "none", "nowhere"):
         yield f"a symbolic link to {file}", lambda tiles: tiles.symlink_to(file)
+    # Of tiles, as it seems: but no tile is written over a file that has another name.
+    yield "a hard link to full", lambda tiles: tiles.hardlink_to(scene.path / "full")
     yield "a FIFO", os.mkfifo
 
 
@@ -153,7 +158,8 @@ def led_to(scene, make, tiles):
 
 
 def check_tiles_of_others(scene, _kills):
-    """A file of tiles that is a journal, a symbolic link or a FIFO is `Failed` of each command that opens it, and no file is changed by it"""
+    """A tile file that is a journal, a link of either kind or a FIFO is `Failed` of each command that opens it, and no file is changed
+    by it"""
     scene.said("init-log k 32473.1 2 9")
     scene.write("full", bytes(8192))
     scene.kept = scene.files()
@@ -198,9 +204,29 @@ def without_room(scene):
         yield from unlike(f"the log of {length} bytes, renamed", scene.size("renamed"), 1)
 
 
+def long_paths(scene):
+    """A new journal's path is as long as the system takes with `.tiles` at its end, and no longer."""
+    inner = (15 * "d" + "/") * (LONGEST_PATH // 16)
+    # A whole path from the root is too long for a call.
+    subprocess.run(["mkdir", "-p", inner], cwd=scene.path, check=True, **scene.owner)
+    for length in range(LONGEST_PATH - 8, LONGEST_PATH + 3):
+        log = inner + "l" * (length - len(inner))
+        fits = length + len(".tiles") <= LONGEST_PATH
+        wanted = (0, "log 32473.1\n", "") if fits else failed("init-log", log)
+        yield from unlike(f"init-log, a path of {length} bytes", scene.run(["init-log", log, LOG, "2", "9"]), wanted)
+        if fits:
+            yield from unlike("its size", scene.size(log), 1)
+        if length <= LONGEST_PATH:
+            # A shell's own names of these files are longer yet.
+            there = subprocess.run(["test", "-e", log], cwd=scene.path).returncode == 0
+            yield from unlike(f"the file of {length} bytes", there, fits)
+    subprocess.run(["rm", "-r", 15 * "d"], cwd=scene.path, check=True)
+
+
 def check_long_names(scene, _kills):
-    """The name of a new journal leaves space for that of a file of tiles, and a longer one is `Failed` and makes no file"""
+    """The name and the path of a new journal leave space for those of a tile file, and longer ones are `Failed` and make no file"""
     yield from without_room(scene)
+    yield from long_paths(scene)
     log, cosigner, moved, over = "l" * LONGEST_NEW, "c" * LONGEST_NEW, "d" * LONGEST, "o" * (LONGEST + 1)
     new = f"{COSIGNER} {LOG} 5 4 secret"
     for words, says in ((f"init-log {log} 32473.1 2 9", "log 32473.1\n"), (f"issue {log} r", "issued 1\n")):

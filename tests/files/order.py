@@ -5,7 +5,7 @@ import re
 import shutil
 import time
 
-from .commands import COMMANDS, HEADER
+from .commands import ASKING, COMMANDS, HEADER
 from .folder import NEW_LOG, ended, failed, unlike
 from .tracing import PIECE, TAIL, appending, new_trace, opening, read_trace, tail_calls, traced, wants_trace
 
@@ -59,19 +59,20 @@ def check_order(scene, _kills):
 
 
 def placed(folder, words):
-    """The reads and writes of `j` after its lock and before the first sync, each with its bytes' number and place, and
+    """The reads and writes of `j` after its lock and its sync, and before the next sync, each with its bytes' number and place, and
     how many writes there are in all."""
     trace = new_trace(folder)
     calls = "trace=flock,fsync,pread64,pwrite64"
     _, _, err = folder.run(words, before=["strace", "-qq", "-o", trace, "-e", calls, "-P", folder.path / "j"])
     text = trace.read_text()
-    following = re.search(r"^flock\(.*?\n(.*?)^fsync\(", text, re.M | re.S)
+    following = re.search(r"^flock\([^\n]*\nfsync\([^\n]*\n(.*?)^fsync\(", text, re.M | re.S)
     lines = re.findall(r"^(pread64|pwrite64)\(.*, (\d+), (\d+)\) += \2$", following[1] if following else "", re.M)
     return [(call, int(size), int(place)) for call, size, place in lines], text.count("pwrite64("), err
 
 
 def check_tail(folder, _kills):
-    """The last bytes of a journal are written again as they are, after its lock and before its sync, and no other file's"""
+    """The last bytes of a journal are written again as they are, after its lock and before its sync, and no other file's, nor by a
+    command that only asks"""
     wants_trace(folder)
     folder.new_log()
     log, file = folder.bytes(), folder.path / "j"
@@ -80,16 +81,42 @@ def check_tail(folder, _kills):
         # Bytes after the closed commit byte mean nothing.
         file.write_bytes(log + random.randbytes(length - len(log)))
         before = folder.bytes()
-        # Then the header is read, before the file of tiles is opened.
-        wanted = [*tail_calls(length), ("pread64", 16, 0)]
-        writes = sum(call == "pwrite64" for call, _, _ in wanted)
-        yield from unlike(f"{length} bytes", placed(folder, ["checkpoint", "j"]), (wanted, writes, ""))
+        for words, only_asks, says in ((["checkpoint", "j"], True, ""), (["tile", "j"], False, "mtc: tile: NothingNew\n")):
+            # Then the header is read, before the tile file is opened.
+            wanted = [*tail_calls(length, only_asks), ("pread64", 16, 0)]
+            writes = sum(call == "pwrite64" for call, _, _ in wanted)
+            yield from unlike(f"{words} of {length} bytes", placed(folder, words), (wanted, writes, says))
         yield from unlike(f"the journal of {length} bytes", folder.bytes() == before, True)
-    line = "mtc: checkpoint: j: NotJournal\n"
     for other in (b"", HEADER[:-1], HEADER[:-1] + b"\1", random.randbytes(2 * PIECE)):
         file.write_bytes(other)
-        _, writes, err = placed(folder, ["checkpoint", "j"])
-        yield from unlike(f"another file of {len(other)} bytes", (writes, err, folder.bytes() == other), (0, line, True))
+        for name in ("checkpoint", "tile"):
+            _, writes, err = placed(folder, [name, "j"])
+            wanted = (0, f"mtc: {name}: j: NotJournal\n", True)
+            yield from unlike(f"{name} of another file of {len(other)} bytes", (writes, err, folder.bytes() == other), wanted)
+
+
+# What opens a file to write it, or makes one.
+WRITABLE = re.compile(r"O_WRONLY|O_RDWR|O_CREAT|O_TRUNC")
+
+
+def check_readers_write_nothing(scene, _kills):
+    """A command that only asks opens its journals and their tile files to read them, and writes none of them; a tile file that isn't
+    there is made"""
+    wants_trace(scene)
+    for command in ASKING:
+        for missing in (True, False):
+            scene.restore()
+            if missing and command.tiles:
+                (scene.path / command.tiles).unlink()
+            trace = new_trace(scene)
+            status, _, _ = scene.run(command.words, before=["strace", "-y", "-qq", "-o", trace])
+            lines = [line for line in trace.read_text().splitlines() if re.search(r'"[^"]*\b[jstcm](\.tiles)?"|/[jstcm](\.tiles)?>', line)]
+            opened = [line for line in lines if line.startswith("openat(") and WRITABLE.search(line)]
+            written = [line for line in lines if re.match("p?write|ftruncate|fallocate|truncate", line)]
+            news = [line for line in opened if "O_EXCL" in line]
+            wanted = (0, [], True, int(missing and bool(command.tiles)))
+            yield from unlike(command.name, (status, written, opened == news, len(news)), wanted)
+            yield from unlike(f"files after {command.name}", scene.changed(), [])
 
 
 def opened_before_its_lock(folder, words):

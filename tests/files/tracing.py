@@ -71,27 +71,29 @@ def tail_pages(length):
     return range(max(length - TAIL, 0), length, PIECE)
 
 
-def tail_calls(length):
-    """The calls that write the end of a journal of so many bytes again, piece by piece."""
+def tail_calls(length, only_asks):
+    """The calls that read the beginning of a journal of so many bytes, and, unless the command only asks, write its end again, piece
+    by piece."""
     yield "pread64", min(HEAD_BYTES, length), 0
-    for place in tail_pages(length):
+    for place in () if only_asks else tail_pages(length):
         size = min(PIECE, length - place)
         yield "pread64", size, place
         yield "pwrite64", size, place
 
 
 def opening(scene, command):
-    """The calls of a command until its journals are open, one after the other: locks, its end written again, and syncs. So many
-    have its page. A file of tiles that is made is synced, with its folder."""
+    """The calls of a command until its journals are open, one after the other: each file is locked and synced; the end of a journal
+    is written again, in so many pieces, unless the command only asks; and its folder is synced. A tile file that is made is synced,
+    with its folder."""
     if command.begins:
         return [f"flock {command.journal}", f"fsync {command.journal}", "fsync ."]
     calls = []
     for journal in command.journals:
-        pages = len(tail_pages(len(scene.kept[journal])))
+        pages = 0 if command.only_asks else len(tail_pages(len(scene.kept[journal])))
         tiles = command.tiles if command.tiles == f"{journal}.tiles" else None
-        made = [f"fsync {tiles}", "fsync ."] if tiles not in scene.kept else []
-        tiled = [f"flock {tiles}", *made] if tiles else []
-        calls += [f"flock {journal}", *[f"pwrite64 {journal}"] * pages, "fsync .", *tiled, f"fsync {journal}"]
+        made = [] if tiles in scene.kept else ["fsync ."]
+        tiled = [f"flock {tiles}", f"fsync {tiles}", *made] if tiles else []
+        calls += [f"flock {journal}", f"fsync {journal}", *[f"pwrite64 {journal}"] * pages, "fsync .", *tiled, f"fsync {journal}"]
     return calls
 
 
@@ -101,3 +103,13 @@ def appending(command):
     tiles = [f"fsync {command.tiles}", f"pwrite64 {command.tiles}", f"fsync {command.tiles}"] if command.writes_tiles else []
     record = [f"pwrite64 {command.journal}", f"fsync {command.journal}"] * 2 if command.adds or command.begins else []
     return [*tiles, *record]
+
+
+def undoing(command, call):
+    """The calls that follow where this call of `appending`, counted from its end, is a sync that fails: the file is cut off, and after
+    the sync of a commit byte that is closed again."""
+    kind, file = appending(command)[-call].split()
+    if kind != "fsync":
+        return []
+    is_commit_byte = call == 1 and file == command.journal
+    return [f"ftruncate {file}", *[f"pwrite64 {file}"] * is_commit_byte]

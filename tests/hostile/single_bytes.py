@@ -17,6 +17,7 @@ RECORDS = bytes.fromhex("00 01 02 03 04 05 06 07 11 12 13 14 15 20 80 ff")
 MIRRORED = bytes.fromhex("00 01 02 03 04 05 06 0b 20 21 22 23 30 7f 80 ff")
 SIGNS = b"\0\n \"#,-.02=[\\]e\x80"
 EACH = bytes(range(256))
+IS_WHOLE = os.environ.get("MTC_ALL") == "1"
 
 
 @cache
@@ -69,7 +70,7 @@ def found(run, label, text):
 
 def cases(label):
     _, files, name, values = scenes()[label]
-    tried = EACH if os.environ.get("MTC_ALL") == "1" else values
+    tried = EACH if IS_WHOLE else values
     yield from ((label, *case) for case in product(range(len(files[name])), tried))
 
 

@@ -54,26 +54,27 @@ def check_authority_hour(scene):
     given = f'[[ "$1" != issue* && "$1" != light-cert* ]] || echo "$1" >>{scene.path}/commands'
     status, out, err = hour(scene, **stand_in(scene, given))
     yield from differ("an hour", (status, out), (0, b"landmark 1 3\npublished 3: 2 files\n"))
-    yield from differ("what it says", err.count("\n"), 1)
+    yield from differ("what it says", err.count("\n"), 2)
+    yield from differ("of its landmarks", "MAXACTIVE is 4, and a certificate lives for 168 hours" in err, True)
     commands = (scene.path / "commands").read_text().split()
-    yield from differ("by", commands, ["issue", "issue-list", "issue", "issue-list", "light-certs"])
+    # Twice the list is only read: the second time it is in its form.
+    yield from differ("by", commands, ["issue-list", "issue-list", "issue-list", "light-certs"])
     yield from differ("what waits", names_in(folder / "requests"), ["a b.request"])
-    yield from differ("issued", names_in(folder / "issued"), ["1.request", "2.request"])
-    yield from differ("the second", (folder / "issued/2.request").read_text(), request("b.example"))
+    yield from differ("issued", (names_in(folder / "issued"), names_in(folder / "certified")), ([], ["1.request", "2.request"]))
+    yield from differ("the second", (folder / "certified/2.request").read_text(), request("b.example"))
     sent_back = sorted(f"{number}.{end}" for number in (2, 4, 5, 6, 7, 8) for end in ("request", "why"))
     yield from differ("sent back", names_in(folder / "refused"), sent_back)
-    for number, why in ((2, "BadValue NotBefore"), (8, "DatesReversed")):
-        found = (folder / f"refused/{number}.why").read_text()
-        yield from differ("why", found, f"mtc: issue: begun/{number}.request: {why}\n")
+    for number, why in ((2, "request_list: not_before is no text\n"), (8, "mtc: issue-list: begun/list: DatesReversed\n")):
+        yield from differ("why", (folder / f"refused/{number}.why").read_text(), why)
     yield from differ("certificates", names_in(folder / "certs"), ["1.cert", "2.cert"])
     for index in (1, 2):
         found = (folder / f"certs/{index}.cert").read_bytes()
         yield from differ(f"that of {index}", found, scene.mtc("light-cert", "a/log", index))
-    yield from differ("public", names_in(folder / "public"), ["checkpoint", "entries", "landmarks", "tile"])
+    yield from differ("public", names_in(folder / "public"), ["about", "checkpoint", "entries", "landmarks", "steps", "tile"])
     yield from differ("its entries", (folder / "public/entries").read_bytes(), scene.mtc("entries", "a/log", 3))
     yield from differ("to a cosigner", (folder / "cosigners/one/subtree").read_bytes(), scene.mtc("subtree", "a/log", 0, 3, 3))
     before = (folder / "log").read_bytes()
-    yield from differ("again", hour(scene)[:2], (0, b"published 3: 0 files\n"))
+    yield from differ("again", hour(scene)[:2], (0, b""))
     yield from differ("its log", (folder / "log").read_bytes(), before)
     yield from large_lists(scene, folder)
     yield from wrong_stops(scene, folder)
@@ -88,18 +89,21 @@ def large_lists(scene, folder):
     commands = scene.file("commands", "")
     given = f'[[ "$1" != issue* ]] || echo "$1" >>{commands}'
     yield from differ("large ones", (hour(scene, **stand_in(scene, given))[0], size_of(scene)), (0, 11))
-    yield from differ("by", commands.read_text().split(), ["issue-list"] * 3)
-    found = [(folder / f"issued/{index}.request").read_text() for index in range(3, 11)]
+    # Each list is read once before the log is opened, and the first one has to be given again.
+    yield from differ("by", commands.read_text().split(), ["issue-list"] * 5)
+    found = [(folder / f"certified/{index}.request").read_text() for index in range(3, 11)]
     yield from differ("each", found, wanted)
 
 
 def wrong_stops(scene, folder):
     """Stops before and after a record, and an entry of which the script knows nothing."""
     issued = f'"{scene.program}" "$@" >/dev/null'
-    for what, line, grown in (("before the record", "exit 5", 0), ("after it", f"{issued}; exit 6", 1),
-                              ("by a signal after it", f"{issued}; kill -9 $$", 1), ("by a signal to all", f"{issued}; kill -9 0", 1)):
+    for what, line, grown, is_wrong in (
+            ("before the record", "exit 5", 0, True), ("after it", f"{issued}; exit 6", 1, True),
+            ("by a signal after it", f"{issued}; kill -9 $$", 1, False), ("by a signal to all", f"{issued}; kill -9 0", 1, True)):
         for several in (1, 3):
-            yield from wrong_stop(scene, folder, f"{what}, of {several}", f'[[ "$1" != issue* ]] || {{ {line}; }}', grown * several, several)
+            stop = f'[[ "$1" != issue* || "$2" != log ]] || {{ {line}; }}'
+            yield from wrong_stop(scene, folder, f"{what}, of {several}", stop, grown * several, several, is_wrong)
     yield from wrong_disks(scene, folder)
     scene.file("a/begun/given", f"{size_of(scene) - 2}\nx.request\n")
     scene.file("a/begun/x.request", request("x.example"))
@@ -115,18 +119,18 @@ def wrong_stops(scene, folder):
     yield from refused("no journal", hour(scene), 2, "NotJournal")
 
 
-def wrong_stop(scene, folder, what, line, grown, several):
-    """The program ends so where it would issue so many requests: the next run ends what was begun."""
+def wrong_stop(scene, folder, what, line, grown, several, is_wrong):
+    """The program ends so where it would issue so many requests: this run or the next one ends what was begun."""
     size = size_of(scene)
     wanted = [request(f"x{number}.example") for number in range(several)]
     for number, text in enumerate(wanted):
         scene.file(f"a/requests/x{number}.request", text)
     ended = scene.tool("authority_hour.sh", "a", env=stand_in(scene, line), start_new_session=True)
-    yield from differ(f"{what}: ended", ended[0] != 0, True)
+    yield from differ(f"{what}: ended", ended[0] != 0, is_wrong)
     yield from differ(f"{what}: the log", size_of(scene), size + grown)
     yield from differ(f"{what}: then", hour(scene)[0], 0)
     yield from differ(f"{what}: the log then", size_of(scene), size + several)
-    issued = [(folder / f"issued/{size + number}.request").read_text() for number in range(several)]
+    issued = [(folder / f"certified/{size + number}.request").read_text() for number in range(several)]
     yield from differ(f"{what}: issued", issued, wanted)
     has = [(folder / f"certs/{size + number}.cert").is_file() for number in range(several)]
     yield from differ(f"{what}: their certificates", has, [True] * several)
@@ -141,19 +145,37 @@ def failing(scene, tool, word):
     return {"PATH": f"{stand_in.parent}:{os.environ['PATH']}"}
 
 
+def killing(scene, place, after, real):
+    """A path on which the command with this number, counted over all, is the last one that runs, or the last that doesn't."""
+    folder = scene.path / "bin_kill"
+    folder.mkdir(exist_ok=True)
+    scene.file("count", "0\n")
+    for tool in real:
+        target = scene.program if tool == "mtc" else shutil.which(tool)
+        run = f'"{target}" "$@"; ' if after else ""
+        text = (f'#!/bin/bash\nread -r n <"{scene.path}/count"; echo $((n + 1)) >"{scene.path}/count"\n'
+                f'[ "$n" -ne {place} ] || {{ {run}kill -9 0; }}\nexec "{target}" "$@"\n')
+        (folder / tool).write_text(text)
+        (folder / tool).chmod(0o755)
+    return {"PATH": f"{folder}:{os.environ['PATH']}", "MTC": str(folder / "mtc")}
+
+
 def wrong_disks(scene, folder):
     """A disk that fails after a record, and before one; a name that is used again meanwhile; certificates that can't be made."""
     size = size_of(scene)
     first, second = request("x.example"), request("y.example")
     for name, text in (("x", first), ("y", second)):
         scene.file(f"a/requests/{name}.request", text)
+    place = folder / f"issued/{size + 1}.request"
+    place.mkdir()
     for number in range(2):
         # The second one's place is missed, and then the first one's is there.
-        yield from differ(f"no mv {number}", hour(scene, **failing(scene, "mv", f"issued/{size + 1}"))[0], 1)
-        yield from differ(f"no mv {number}: the log", size_of(scene), size + 2)
+        yield from differ(f"no place {number}", hour(scene)[0], 5)
+        yield from differ(f"no place {number}: the log", size_of(scene), size + 2)
+    place.rmdir()
     scene.file("a/requests/y.request", first)
     yield from differ("a name used again", (hour(scene)[0], size_of(scene)), (0, size + 3))
-    issued = [(folder / f"issued/{size + number}.request").read_text() for number in range(3)]
+    issued = [(folder / f"certified/{size + number}.request").read_text() for number in range(3)]
     yield from differ("all requests", issued, [first, second, first])
     scene.file("a/requests/x.request", first)
     yield from differ("no sync", (hour(scene, **failing(scene, "sync", "begun"))[0], size_of(scene)), (1, size + 3))
@@ -161,13 +183,15 @@ def wrong_disks(scene, folder):
     line = 'if [[ "$1" = light-cert* ]]; then exit 5; fi'
     yield from differ("no certificate", (hour(scene, **stand_in(scene, line))[0], size_of(scene)), (5, size + 5))
     yield from differ("nothing half", [path.name for path in folder.rglob("*.new")], [])
-    line = 'if [[ "$1" = light-certs ]]; then exit 4; fi'
     has = lambda: [(folder / f"certs/{size + number}.cert").is_file() for number in (3, 4)]
-    yield from differ("one by one", (hour(scene, **stand_in(scene, line))[0], has()), (0, [True, True]))
+    yield from differ("then", (hour(scene)[0], has(), names_in(folder / "issued")), (0, [True, True], []))
 
 
-def day(scene, folder="c", kept="kept", **env):
-    return scene.tool("cosigner_day.sh", folder, kept, env=env)
+
+def day(scene, folder="c", kept="kept", *options, **env):
+    """A day, without the warning that both files are on one disk, as they are here."""
+    status, out, err = scene.tool("cosigner_day.sh", *options, folder, kept, env=env)
+    return status, out, "".join(line for line in err.splitlines(True) if not line.startswith("guarded_cosign: warning: "))
 
 
 def fetch(scene):
@@ -209,13 +233,14 @@ def check_cosigner_day(scene):
     scene.run(TOOLS / "guarded_cosign.sh", "begin", "d/journal", "kept_of_two")
     scene.mtc("consist", "a/log", 0, 3, into="d/consist")
     scene.mtc("subtree", "a/log", 0, 2, 3, into="d/subtree")
-    yield from differ("a key of two levels", day(scene, "d", "kept_of_two"), (0, b"advanced 3\n", ""))
+    yield from differ("a key of two levels", day(scene, "d", "kept_of_two", "--any-subtree"), (0, b"advanced 3\n", ""))
     yield from differ("its signature is its first", b"signs 1\n" in scene.mtc("held", "d/export"), True)
     scene.mtc("init-log", "fork", LOG, 4, 64)
     for name in ("c.example", "d.example", "e.example"):
         scene.file("r", request(name))
         scene.mtc("issue", "fork", "r")
     scene.mtc("consist", "fork", 3, 4, into="c/consist")
+    scene.mtc("subtree", "fork", 0, 4, 4, into="c/subtree")
     journal = (scene.path / "c/journal").read_bytes()
     yield from refused("a fork", day(scene), 4, "BadProof")
     yield from differ("the journal then", (scene.path / "c/journal").read_bytes(), journal)

@@ -48,4 +48,28 @@ def check_take_entries(scene):
     yield from refused("a list that is cut", take(scene, "cut"), 2, "Short")
     yield from refused("no list", take(scene, "none"), 64, "ENTRIES")
     (scene.path / "m").rename(scene.path / "gone")
-    yield from refused("no mirror", take(scene), 7, "mtc: mirror-take: m: Absent\n")
+    yield from refused("no mirror", take(scene), 7, "mtc: mirror-entries: m: Absent\n")
+    yield from wrong_lists(scene, entries)
+
+
+def wrong_lists(scene, entries):
+    """The new entries alone, and lists that aren't those of a checkpoint: nothing of these is taken."""
+    scene.mtc("mirror-init", "m", LOG)
+    scene.mtc("checkpoint", "j", into="c")
+    scene.mtc("entries", "j", 900, into="first")
+    scene.mtc("entries-from", "j", 900, SIZE, into="new")
+    scene.file("forked", entries.replace(b"a.example", b"b.example", 1))
+    before = (scene.path / "m").read_bytes()
+
+    def take_from(*words):
+        return scene.tool("take_entries.sh", *words)
+
+    yield from refused("a fork", take_from("m", "forked", "c"), 24, "forked isn't the log's")
+    yield from refused("too few", take_from("m", "first", "c"), 24, "first isn't the log's")
+    yield from refused("no checkpoint", take_from("m", "e", "first"), 25, "not the two lines")
+    yield from refused("those before are missing", take_from("--from", "900", "m", "new", "c"), 4, "the mirror has 0 entries")
+    yield from differ("nothing was taken", (scene.path / "m").read_bytes(), before)
+    yield from differ("the first ones", take_from("m", "first"), (0, b"900\n", ""))
+    for again in ("", " again"):
+        yield from differ(f"the new ones{again}", take_from("--from", "900", "m", "new", "c"), (0, f"{SIZE}\n".encode(), ""))
+    yield from differ("all of them", scene.mtc("mirror-entries", "m", SIZE) == entries, True)

@@ -26,10 +26,11 @@ def check_units(scene):
             yield from differ(f"{unit.name}: {script}", (scene.path / "mtc" / script).is_file(), True)
         unit.write_text(text.replace(INSTALLED, str(scene.path / "mtc")))
         units.append(unit)
-    yield from differ("units", [unit.name for unit in units],
-                      [f"mtc-{who}.{kind}" for who in ("authority", "cosigner") for kind in ("service", "timer")])
+    names = sorted({unit.name.partition(".")[0] for unit in units})
+    yield from differ("those of", {"mtc-authority", "mtc-cosigner", "mtc-mirror", "mtc-monitor"} <= set(names), True)
+    yield from differ("units", [unit.name for unit in units], [f"{name}.{kind}" for name in names for kind in ("service", "timer")])
     yield from differ("users", [re.findall(r"^User=(.*)", unit.read_text(), re.M) for unit in units],
-                      [["mtc-authority"], [], ["mtc-cosigner"], []])
+                      [wanted for name in names for wanted in ([name], [])])
     yield from differ("systemd-analyze", scene.ended("systemd-analyze", "verify", *units), (0, b"", ""))
     # It sees a wrong one.
     bad = scene.file("bad.service", units[0].read_text().replace("ExecStart=", "ExecStart=/nowhere"))
@@ -65,7 +66,14 @@ def check_container(scene):
 
 
 def packed(scene, out, *more, **options):
-    return scene.tool("release.py", out, LINE, "--program", "program", *more, **options)
+    return scene.tool("release.py", out, LINE, "--program", "program", "--kit", "a kit", *more, **options)
+
+
+def made_library(scene, name):
+    """A folder with files that look like the C library."""
+    scene.file(f"{name}/libmtc.a", b"!<arch>\n")
+    scene.file(f"{name}/libmtc.so.1", b"\x7fELF")
+    return "--library", name
 
 
 def check_release(scene):
@@ -73,39 +81,81 @@ def check_release(scene):
     if not shutil.which("git") or subprocess.run(["git", "-C", ROOT, "rev-parse", "HEAD"], capture_output=True).returncode:
         raise LeftOut("git isn't here, or this is no clone")
     shutil.copy(scene.program, scene.path / "program")
-    kit = ("--kit", "a kit")
-    yield from differ("a release", packed(scene, "one.tar.gz", *kit), (0, b"", ""))
+    library = made_library(scene, "library")
+    yield from differ("a release", packed(scene, "one.tar.gz", *library), (0, b"", ""))
     (scene.path / "program").touch()
     (scene.path / "program").chmod(0o600)
     other = {"env": {"TZ": "Asia/Tokyo", "LC_ALL": "C"}, "umask": 0o077}
-    yield from differ("another one", packed(scene, "two.tar.gz", *kit, **other), (0, b"", ""))
+    yield from differ("another one", packed(scene, "two.tar.gz", *library, **other), (0, b"", ""))
     one = (scene.path / "one.tar.gz").read_bytes()
     yield from differ("both", hashlib.sha256((scene.path / "two.tar.gz").read_bytes()).hexdigest(), hashlib.sha256(one).hexdigest())
-    yield from wrong_contents(scene, one)
+    yield from wrong_contents(scene, one, True)
+    yield from differ("a release without the library", packed(scene, "three.tar.gz"), (0, b"", ""))
+    yield from wrong_contents(scene, (scene.path / "three.tar.gz").read_bytes(), False)
+    yield from refused_releases(scene)
+
+
+def refused_releases(scene):
+    """What is no line of a gate that passed, no program and no library is refused, and nothing is written."""
     for line in ("1234 passed, 1 failed", "0 passed, 0 failed", "", "1 passed, 0 failed\nmore", "1 failed: no; 3 passed, 0 failed"):
         yield from refused(f"the line {line!r}", scene.tool("release.py", "out", line, "--program", "program"), 1, "the line isn't")
-    yield from refused("no program", scene.tool("release.py", "out", LINE, "--program", "one.tar.gz", *kit), 2, "no program")
-    yield from differ("a file that isn't there", scene.tool("release.py", "out", LINE, "--program", "none", *kit)[0], 2)
+    yield from refused("no program", packed(scene, "out", "--program", "one.tar.gz"), 2, "no program")
+    yield from differ("a file that isn't there", packed(scene, "out", "--program", "none")[0], 2)
+    yield from differ("a library that isn't there", packed(scene, "out", "--library", "none")[0], 2)
+    scene.file("library/libmtc.so.1", b"no")
+    yield from refused("no library", packed(scene, "out", "--library", "library"), 2, "no library")
     yield from differ("nothing of these", (scene.path / "out").exists(), False)
 
 
-def wrong_contents(scene, text):
+def packed_of(scene, commit, has_library):
+    """The names in a release of a commit: those of its pages, scripts and examples, and what is made for it."""
+    folders = scene.run("git", "-C", ROOT, "ls-tree", "-r", "--name-only", commit, "tools", "docs", "examples").decode().split()
+    left = {"tools/release.py", "tools/c_library.sh", "docs/mtc.1", "docs/mtc.bash"}
+    names = {name for name in folders if name not in left and (has_library or not name.startswith("examples/c/"))}
+    names |= {"README", "README.md", "VERSION", "mtc", "mtc.1", "mtc.bash"}
+    if has_library:
+        names |= {"include/mtc.h", "lib/libmtc.a", "lib/libmtc.so", "lib/libmtc.so.1", "lib/pkgconfig/mtc.pc"}
+    return sorted(names)
+
+
+def wrong_contents(scene, text, has_library):
     """What is packed: names, modes, owners and times, VERSION, and a program that runs."""
     with tarfile.open(fileobj=io.BytesIO(text)) as tar:
         members = tar.getmembers()
         tar.extractall(scene.path, filter="data")
     top, names = members[0].name.split("/")[0], [member.name.partition("/")[2] for member in members]
     commit = scene.run("git", "-C", ROOT, "rev-parse", "HEAD").decode().strip()
-    yield from differ("its folder", (top, names), (f"mtc-{commit[:12]}", sorted(names)))
+    yield from differ("its folder", top, f"mtc-{commit[:12]}")
     yield from differ("owners and times", {(member.uid, member.gid, member.uname) for member in members}, {(0, 0, "root")})
     yield from differ("times", len({member.mtime for member in members}), 1)
-    wanted = scene.run("git", "-C", ROOT, "ls-tree", "-r", "--name-only", commit, "tools/").decode().split()
-    beside = ["README", "VERSION", "examples/first.member", "include/mtc.h", "mtc", "mtc.1", "mtc.bash"]
-    yield from differ("files", names, sorted([*wanted, *beside]))
+    yield from differ("files", names, packed_of(scene, commit, has_library))
+    yield from differ("links", [(member.name.split("/")[-1], member.linkname) for member in members if member.issym()],
+                      [("libmtc.so", "libmtc.so.1")] * has_library)
     for word in re.findall(r"^COPY (\S+)", (TOOLS / "Containerfile").read_text(), re.M):
         yield from differ(f"the container's {word}", word in names, True)
-    number = hashlib.sha256((scene.path / "program").read_bytes()).hexdigest()
-    version = (scene.path / top / "VERSION").read_text()
-    yield from differ("VERSION", version, f"commit {commit}\nkit a kit\nprogram {number}\ngate {LINE}\n")
+    yield from wrong_version(scene, scene.path / top, commit, [member.name.partition("/")[2] for member in members if member.isfile()])
     ended = scene.ended("./mtc", "member", "examples/first.member", cwd=scene.path / top)
     yield from differ("its program", ended, (0, b"member 0\n", ""))
+    shutil.rmtree(scene.path / top)
+
+
+def wrong_version(scene, folder, commit, names):
+    """What VERSION says: the commit, the kit, the gate, and a sum of each file but itself, as sha256sum reads it."""
+    lines = (folder / "VERSION").read_text().splitlines()
+    yield from differ("VERSION", lines[:3], [f"commit {commit}", "kit a kit", f"gate {LINE}"])
+    yield from differ("its files", [line.split("  ")[1] for line in lines[3:]], [name for name in names if name != "VERSION"])
+    check = re.search(r"^    (sed .*sha256sum.*)$", (folder / "README").read_text(), re.M)[1]
+    yield from differ(check, scene.ended("sh", "-c", check, cwd=folder), (0, b"", ""))
+    (folder / "mtc.1").write_text("another")
+    yield from differ("a file that was changed", scene.ended("sh", "-c", check, cwd=folder)[0] != 0, True)
+
+
+def check_machine(scene):
+    """what the pages and the release say of the machine is what the program asks of its C library"""
+    lacks("objdump")
+    asked = re.findall(r"GLIBC_(\d+)\.(\d+)", scene.run("objdump", "-T", scene.program).decode())
+    newest = ".".join(map(str, max((int(major), int(minor)) for major, minor in asked)))
+    for page in ("tools/release.py", "docs/OPERATIONS.md"):
+        said = re.findall(r"C\s+library,\s+(\d+\.\d+)\s+or\s+newer", (ROOT / page).read_text())
+        yield from differ(f"{page}: the C library", said, [newest])
+        yield from differ(f"{page}: the processor", "x86-64-v2" in (ROOT / page).read_text(), True)

@@ -15,6 +15,8 @@ KEY = "MCowBQYDK2VwAyEAAAAAAAAAAAAAAAAAAAAAAAAAAAAAAAAAAAAAAAAAAAA="
 LOG = "32473.1"
 # How many seconds anything may take, also beside much other work.
 LONGEST = 600
+# The scripts run the Python that runs the checks.
+os.environ["PATH"] = f"{Path(sys.executable).parent}{os.pathsep}{os.environ['PATH']}"
 
 
 class LeftOut(Exception):
