@@ -81,7 +81,7 @@ for count in 1024 10000 100000 1048576; do
         "$program" advance "s$n" advance >/dev/null
         "$program" cosign "s$n" subtree >>signatures
     done
-    "$program" export s2 >export
+    "$program" export s2 >"export"
     "$program" cert journal 1000 0 1024 signatures >cert
     "$program" entries journal "$count" >entries
     row "$audited" "$count entries" 0 "$program" audit cert store 1767225600 entries export

@@ -1,21 +1,21 @@
 #!/usr/bin/env python3
-"""Runs the gate, and says what each crate cost: the processor seconds of its proof, of its tests and of its must-fail edits.
+"""What each crate costs the gate: the processor seconds of its proof, of its tests and of its must-fail edits; and what each check.
 
-Usage: bench/gate_costs.py [COMMAND WORD..]              runs rt ci, or this command, and prints the table
-       bench/gate_costs.py --write rt ci --anew          puts it into bench/COSTS.md, and its sums into README
-       bench/gate_costs.py --write rt ci                 the same, where the kit stores nothing and knows no --anew
-       bench/gate_costs.py --above NAME                  what a change of a crate costs, by the table of COSTS
-       bench/gate_costs.py --again                       makes what follows from that table's numbers again
+Usage: bench/gate_costs.py --note COMMAND WORD..    runs a command, as .ci/run does with rt ci, and prints what it cost as well
+       bench/gate_costs.py --write LOG..            puts what these logs say into bench/COSTS.md, and its sums into README
+       bench/gate_costs.py --again                  computes again what follows from the numbers that were measured
+       bench/gate_costs.py --above NAME             what a change of a crate costs, by the table of COSTS
 
-What the command writes goes to standard error. --write refuses all but the whole gate from nothing: another command, one
-that failed, a run in which a crate has no seconds of a part that it has, and one whose table has less than nine tenths
-of what the system counted. --again runs nothing and changes no number that was measured: it counts again what stands
-above each crate, by crates.txt, and the sums below the table.
+A log is what .ci/run printed, or --note; its lines that begin with `cost: ` count, and of several logs the last one that has a row.
+A crate that the run took over as proved before has no seconds. Then its row stays as it was, and names the commit of the run that it
+is of. Where there is no such row, the script names the crate, README stays as it is, and the status is 1. Nothing is written of a
+command that failed. `--note rt ci --anew` measures all crates in one run, and with names of crates these and those below.
 
-Two runs are compared by the sum of their proofs, which is the same work on each machine. Every half second the script
-reads the provers that the command has started; what a prover used in its last half second is in no row, and only in
-the sum by the system's count.
+Every half second the script reads the provers that the command has started; what a prover used in its last half second is in no
+row, and only in the sum by the system's count.
 """
+
+import datetime
 import glob
 import os
 import re
@@ -25,21 +25,26 @@ import sys
 import time
 
 ROOT = os.path.dirname(os.path.dirname(os.path.abspath(__file__)))
-COSTS = f"{ROOT}/bench/COSTS.md"
+COSTS, README = f"{ROOT}/bench/COSTS.md", f"{ROOT}/README.md"
 TICK = os.sysconf("SC_CLK_TCK")
 KINDS = ("proof", "tests", "edits")
 # What the whole may be: so many times the sum of the proofs, and so many processor minutes when the program is finished.
 RATIO, FINISHED = 1.9, 300
-# What the table has to have of the whole run: with less the script has looked too seldom, and the rows are too small.
+# What the rows need to have of a run from nothing: with less the script has looked too seldom, and the rows are too small.
 LEAST = 0.9
 BEGIN, END = "<!-- costs: begin -->\n", "<!-- costs: end -->"
-COLUMNS = ("Crate", "Lines", "Proof, s", "Tests, s", "Edits, s", "All, s", "Minutes for 1,000 lines")
-ABOVE = "With what stands above, minutes"
+COLUMNS = ("Crate", "Lines", "Proof, s", "Tests, s", "Edits, s", "All, s", "Minutes for 1,000 lines", "Commit",
+           "With what stands above, minutes")
+OF_CHECKS = ("Check", "By the clock, s", "Processor, s", "Commit")
+OF_RUNS = ("Run of commit", "Day", "Machine", "Processor minutes", "Minutes by the clock")
 
 
 def text_of(path):
     with open(path, encoding="utf-8", errors="replace") as it:
         return it.read()
+
+
+# ---- running
 
 
 def processes():
@@ -67,26 +72,62 @@ def crate_and_kind(number):
     return crate, "tests" if "--test" in words else "proof"
 
 
-def descendants(root, found):
-    """The processes below one, itself among them."""
-    below, grew = {root}, True
-    while grew:
-        more = {number for number, parent, _, _ in found if parent in below} - below
-        below |= more
-        grew = bool(more)
-    return below
-
-
 def look(root, seen):
-    """Notes the ticks of each prover that runs now."""
-    found = list(processes())
-    ours = descendants(root, found)
+    """Notes the ticks of each prover below a process that runs now."""
+    found, ours, grew = list(processes()), {root}, True
+    while grew:
+        more = {number for number, parent, _, _ in found if parent in ours} - ours
+        ours |= more
+        grew = bool(more)
     for number, _, start, ticks in found:
-        if number not in ours:
-            continue
-        what = crate_and_kind(number)
+        what = crate_and_kind(number) if number in ours else None
         if what:
             seen[number, start] = what, ticks
+
+
+def run_line():
+    """What a run is of: the commit, the day and the machine."""
+    told = subprocess.run(["git", "rev-parse", "--short=8", "HEAD"], cwd=ROOT, capture_output=True, text=True, check=False).stdout
+    models = re.findall(r"^model name\s*: (.*)", text_of("/proc/cpuinfo"), re.M)
+    memory = int(re.search(r"MemTotal:\s*(\d+)", text_of("/proc/meminfo"))[1]) / 2**20
+    machine = f"{len(os.sched_getaffinity(0))} processors, {' '.join((models or ['unknown'])[0].split())}, {memory:.0f} GB"
+    return f"cost: run {told.strip() or 'unknown'} {datetime.date.today()} {machine}"
+
+
+def note(command):
+    """Runs a command, prints what it cost, and returns its status."""
+    print(run_line(), flush=True)
+    seen, began, used = {}, time.time(), sum(resource.getrusage(resource.RUSAGE_CHILDREN)[:2])
+    ran = subprocess.Popen(command, cwd=ROOT)
+    while True:
+        look(ran.pid, seen)
+        try:
+            ran.wait(0.5)
+            break
+        except subprocess.TimeoutExpired:
+            continue
+    costs = {}
+    for what, ticks in seen.values():
+        costs[what] = costs.get(what, 0) + ticks / TICK
+    for (crate, kind), seconds in sorted(costs.items()):
+        print(f"cost: {kind} {crate} {seconds:.1f}")
+    used = sum(resource.getrusage(resource.RUSAGE_CHILDREN)[:2]) - used
+    print(f"cost: ended {ran.returncode} {used:.0f} {time.time() - began:.0f}", flush=True)
+    return ran.returncode
+
+
+# ---- the crates, the checks and the rows of COSTS
+
+
+def needs():
+    """What each crate of crates.txt names."""
+    lines = [line.split("#")[0] for line in text_of(f"{ROOT}/crates.txt").split("\n")]
+    return {line.split(":")[0].split()[0]: line.split(":")[1].split() for line in lines if ":" in line}
+
+
+def checks():
+    """The checks that .ci/run lists."""
+    return re.findall(r'^    "(tests/[^":]+)"$', text_of(f"{ROOT}/.ci/run"), re.M)
 
 
 def lines_of(crate):
@@ -96,43 +137,41 @@ def lines_of(crate):
     return sum(text_of(it).count("\n") for it in wanted)
 
 
-def by_clock(seconds):
-    return f"{seconds / 60:.0f} minutes by the clock on {len(os.sched_getaffinity(0))} processors"
+def kinds_of(crate):
+    """Which of the three costs a crate has."""
+    folder = f"{ROOT}/crates/{crate}"
+    has_tests = any("#[test]" in text_of(it) for it in glob.glob(f"{folder}/src/**/*.rt", recursive=True))
+    return ["proof", *["tests"] * has_tests, *["edits"] * bool(glob.glob(f"{folder}/must-fail/*.edit"))]
 
 
-def seconds_used():
-    """The processor seconds of all processes that have ended, by the system's count."""
-    used = resource.getrusage(resource.RUSAGE_CHILDREN)
-    return used.ru_utime + used.ru_stime
+def block_of(path):
+    """What stands in a page between the marks."""
+    return text_of(path).split(BEGIN, 1)[1].split(END, 1)[0]
 
 
-def measured_rows(costs):
-    """The cells of each crate that are measured, the dearest crate first, and at the end those of all together."""
-    rows = [(crate, lines_of(crate), [by.get(kind, 0) for kind in KINDS]) for crate, by in costs.items()]
-    rows.sort(key=lambda row: -sum(row[2]))
-    whole = [sum(row[2][at] for row in rows) for at in range(3)]
-    for crate, lines, seconds in [*rows, ("all", sum(row[1] for row in rows), whole)]:
-        name = crate if crate == "all" else f"`{crate}`"
-        each = sum(seconds) / 60 / lines * 1000 if lines else 0
-        yield [name, f"{lines:,}", *(f"{it:,.0f}" for it in seconds), f"{sum(seconds):,.0f}", f"{each:.1f}"]
+def written(head):
+    """The cells of the rows of a table of COSTS, by their first cell."""
+    table = re.search(rf"^\| {head} \|.*\n((?:\|.*\n)*)", block_of(COSTS), re.M)
+    rows = [[cell.strip() for cell in line.split("|")[1:-1]] for line in table[1].split("\n")[1:] if line] if table else []
+    return {row[0].strip("`"): row for row in rows}
 
 
-def written_rows():
-    """The same cells, as they stand in COSTS."""
-    rows = [line.split("|")[1:-1] for line in block_of(COSTS).split("\n") if re.match(r"\| (`|all )", line)]
-    return [[cell.strip() for cell in row[: len(COLUMNS)]] for row in rows]
+def crate_rows():
+    """(lines, seconds of the three, commit) for each row of a crate."""
+    return {name: (row[1], [int(cell.replace(",", "")) for cell in row[2:5]], row[7].strip("`"))
+            for name, row in written("Crate").items() if name != "all"}
 
 
-def seconds_in(rows, column):
-    """The seconds of each crate in a column, and of all."""
-    at = COLUMNS.index(column)
-    return {row[0].strip("`"): int(row[at].replace(",", "")) for row in rows}
+def differing():
+    """The crates and the checks without a row, and the rows without a crate or a check."""
+    return {"crates": sorted(set(needs()) ^ set(crate_rows())), "checks": sorted(set(checks()) ^ set(written("Check")))}
 
 
-def needs():
-    """What each crate of crates.txt names."""
-    lines = [line.split("#")[0] for line in text_of(f"{ROOT}/crates.txt").split("\n")]
-    return {line.split(":")[0].split()[0]: line.split(":")[1].split() for line in lines if ":" in line}
+def whole_rows():
+    """The rows of crates, or the end of the script where they are not those of crates.txt."""
+    if differing()["crates"]:
+        sys.exit(f"bench/COSTS.md and crates.txt differ in {', '.join(differing()['crates'])}: bench/gate_costs.py --write LOG")
+    return crate_rows()
 
 
 def standing_on(crate):
@@ -145,144 +184,167 @@ def standing_on(crate):
     return above - {crate}
 
 
-def table(rows):
-    """The lines of the table: after what was measured, what a crate costs with all that stands on it."""
-    spent = seconds_in(rows, "All, s")
-    yield f"| {' | '.join(COLUMNS)} | {ABOVE} |"
-    yield "|---" * (len(COLUMNS) + 1) + "|"
-    for row in rows:
-        crate = row[0].strip("`")
-        seconds = spent[crate] + sum(spent.get(it, 0) for it in standing_on(crate))
-        yield f"| {' | '.join(row)} | {seconds / 60:.0f} |"
-
-
 def chain_of(rows):
     """The minutes of the proofs that follow one another below the program, along the longest chain of crates, and of all its
     proofs."""
-    named, proofs, chain = needs(), seconds_in(rows, "Proof, s"), {}
+    named, chain = needs(), {}
 
     def longest(crate):
         if crate not in chain:
-            chain[crate] = proofs.get(crate, 0) + max((longest(it) for it in named[crate] if it in named), default=0)
+            chain[crate] = rows[crate][1][0] + max((longest(it) for it in named[crate] if it in named), default=0)
         return chain[crate]
 
-    longest("mtc_main")
-    return chain["mtc_main"] / 60, sum(proofs.get(crate, 0) for crate in chain) / 60
+    return longest("mtc_main") / 60, sum(rows[crate][1][0] for crate in chain) / 60
 
 
-def summary(rows, whole, clock):
-    """The sentences below the table."""
-    proofs, spent = seconds_in(rows, "Proof, s")["all"] / 60, seconds_in(rows, "All, s")["all"] / 60
-    chain, reported = chain_of(rows)[0], f"{whole} processor minutes by the system's count, of which the table has {spent:.0f}, and {clock}."
-    if not proofs:
-        return reported
+# ---- the page
+
+
+def table(columns, rows):
+    return [f"| {' | '.join(columns)} |", "|---" * len(columns) + "|", *(f"| {' | '.join(row)} |" for row in rows), ""]
+
+
+def crate_table(rows):
+    """The rows of crates, the dearest first, and at the end those of all together."""
+    whole = {crate: sum(seconds) for crate, (_, seconds, _) in rows.items()}
+    ordered = sorted(rows, key=lambda crate: -whole[crate])
+    for crate in ordered:
+        lines, seconds, commit = rows[crate]
+        others = standing_on(crate)
+        above = f"{(whole[crate] + sum(whole[it] for it in others)) / 60:.0f}" if others <= whole.keys() else "?"
+        yield [f"`{crate}`", *cells(lines, seconds), f"`{commit}`", above]
+    lines = sum(int(row[0].replace(",", "")) for row in rows.values())
+    yield ["all", *cells(f"{lines:,}", [sum(row[1][at] for row in rows.values()) for at in range(3)]), "", f"{sum(whole.values()) / 60:.0f}"]
+
+
+def cells(lines, seconds):
+    each = sum(seconds) / 60 / max(int(lines.replace(",", "")), 1) * 1000
+    return [lines, *(f"{it:,.0f}" for it in seconds), f"{sum(seconds):,.0f}", f"{each:.1f}"]
+
+
+def summary(rows, of_checks, runs):
+    """The sentences below the tables."""
+    proofs, whole = (sum(sum(row[1][:end]) for row in rows.values()) / 60 for end in (1, 3))
+    chain, of_program = chain_of(rows)
+    clock, processor = (sum(float(row[at].replace(",", "")) for row in of_checks.values()) / 60 for at in (1, 2))
     return (
-        f"{reported} The proofs took {proofs:.0f} of them. The whole is {whole / proofs:.1f} times that, and {RATIO} is the most that it may be; "
-        f"{FINISHED} minutes are the most for the finished program. "
-        f"Of the proofs of the program {chain:.0f} minutes can't run side by side, those of the longest chain of crates: "
-        f"{chain / proofs:.2f} of all proofs."
+        f"All rows together are {whole:.0f} processor minutes, of {len(runs)} run{'s' * (len(runs) > 1)}, and the proofs {proofs:.0f} of them. "
+        f"The whole is {whole / proofs:.1f} times that, and {RATIO} is the most that it may be; {FINISHED} minutes are the most for the finished "
+        f"program. Of the {of_program:.0f} minutes of the program's proofs {chain:.0f} can't run side by side, those of the longest chain "
+        f"of crates. The {len(of_checks)} checks take {clock:.0f} minutes one after the other, and {processor:.0f} processor minutes."
     )
 
 
-def sentence(rows, whole, clock):
+def sentence(rows, of_checks, runs):
     """What README says of the times of its two commands."""
-    chain, proofs = chain_of(rows)
+    (chain, of_program), whole = chain_of(rows), sum(sum(row[1]) for row in rows.values()) / 60
+    commit, (day, machine, *_) = list(runs.items())[-1]
+    clock = sum(float(row[1].replace(",", "")) for row in of_checks.values()) / 60
+    earlier = sum(row[2] != commit for row in rows.values())
+    several = f"; {earlier} crates as an earlier run measured them" if earlier else ""
     return (
-        "The first shows an unproved answer on standard error within some three minutes. Then it proves and builds the program, once. "
-        f"That is {proofs:.0f} processor minutes of proofs on the machine of the last whole run, of which {chain:.0f} can't run side by side. "
-        f"The second took {whole} processor minutes, and {clock} ([COSTS](bench/COSTS.md))."
+        f"The first shows an unproved answer on standard error. Then it proves and builds the program, once. That is {of_program:.0f} processor "
+        f"minutes of proofs, of which {chain:.0f} can't run side by side. The second takes {whole:.0f} processor minutes from nothing, and "
+        f"{clock:.0f} minutes of checks. These are the figures of commit `{commit}`, measured on {day} ({machine}{several}): "
+        "[COSTS](bench/COSTS.md)."
     )
 
 
-def gaps(costs, whole):
-    """What each crate has, and this run has no seconds of; and whether the table has too little of the whole minutes."""
-    minutes = sum(sum(by.values()) for by in costs.values()) / 60
-    if minutes < LEAST * whole:
-        yield f"the table has {minutes:.0f} of {whole} processor minutes, less than {LEAST} of them"
-    for crate in needs():
-        folder = f"{ROOT}/crates/{crate}"
-        sources = glob.glob(f"{folder}/src/**/*.rt", recursive=True)
-        has = {"proof": True, "tests": any("#[test]" in text_of(it) for it in sources)}
-        has["edits"] = bool(glob.glob(f"{folder}/must-fail/*.edit"))
-        yield from (f"no seconds of {crate}, {kind}" for kind in KINDS if has[kind] and not costs.get(crate, {}).get(kind))
-
-
-def block_of(path):
-    """What stands in a page between the marks."""
-    return text_of(path).split(BEGIN, 1)[1].split(END, 1)[0]
-
-
-def write(path, reported):
+def put(path, text):
     """Puts a text in its place in a page."""
-    page = text_of(path).replace(BEGIN + block_of(path) + END, f"{BEGIN}{reported}\n{END}")
+    page = text_of(path).replace(BEGIN + block_of(path) + END, f"{BEGIN}{text}\n{END}")
     with open(path, "w", encoding="utf-8") as it:
         it.write(page)
 
 
+def write_page(rows, of_checks, runs):
+    used = {row[2] for row in rows.values()} | {row[3].strip("`") for row in of_checks.values()}
+    runs = {commit: row for commit, row in runs.items() if commit in used}
+    lines = table(COLUMNS, crate_table(rows)) + table(OF_CHECKS, of_checks.values())
+    lines += table(OF_RUNS, ([f"`{commit}`", *row] for commit, row in runs.items()))
+    missing = [f"`{crate}`" for crate in needs() if crate not in rows]
+    if missing:
+        put(COSTS, "\n".join([*lines, f"No run has measured {', '.join(missing)}, so no sums are made."]))
+    else:
+        put(COSTS, "\n".join([*lines, summary(rows, of_checks, runs)]))
+        put(README, sentence(rows, of_checks, runs))
+
+
+def runs_written():
+    return {name: row[1:] for name, row in written("Run of commit").items()}
+
+
+# ---- logs
+
+
+def read(log, costs, of_checks, runs):
+    """Adds what a log says; yields why it can't be taken."""
+    commit, ended, mine = None, None, {}
+    for kind, rest in re.findall(r"^cost: (\w+) (.*)$", text_of(log), re.M):
+        words = rest.split()
+        if kind == "run":
+            commit, machine = words[0], " ".join(words[2:])
+            runs.pop(commit, None)
+            runs[commit] = [f"{datetime.date.fromisoformat(words[1]):%-d %B %Y}", machine, "", ""]
+        elif kind == "ended":
+            ended, used = words[0], float(words[1])
+            runs[commit][2:] = [f"{float(word) / 60:.0f}" for word in words[1:]]
+        elif kind == "check":
+            name, clock, *processor = rest.rsplit(" ", 3)
+            of_checks[name] = [f"`{name}`", clock, f"{sum(map(float, processor)):.1f}", f"`{commit}`"]
+        else:
+            mine.setdefault(words[0], {})[kind] = float(words[1])
+    costs.update({crate: (commit, by) for crate, by in mine.items()})
+    if ended != "0":
+        yield f"{log}: {'its command failed' if ended else 'it is no log of a run that ended'}"
+    of_provers, is_whole = sum(sum(by.values()) for by in mine.values()), not re.search(r"^rt: \w+ is kept: ", text_of(log), re.M)
+    if ended and is_whole and of_provers < LEAST * used:
+        yield f"{log}: its rows have less than {LEAST} of what the system counted"
+
+
+def write(logs):
+    costs, of_checks, runs = {}, written("Check"), runs_written()
+    wrong = [why for log in logs for why in read(log, costs, of_checks, runs)]
+    of_checks = {name: of_checks[name] for name in checks() if name in of_checks}
+    rows, lacking, old = {}, [], crate_rows()
+    for crate in needs():
+        commit, by = costs.get(crate, ("", {}))
+        if all(by.get(kind) for kind in kinds_of(crate)):
+            rows[crate] = f"{lines_of(crate):,}", [by.get(kind, 0) for kind in KINDS], commit
+        elif crate in old:
+            rows[crate] = old[crate]
+        else:
+            lacking.append(f"no seconds of {crate}: {', '.join(kind for kind in kinds_of(crate) if not by.get(kind))}")
+    if wrong:
+        sys.exit("\n".join(["nothing is written:", *wrong]))
+    write_page(rows, of_checks, runs)
+    if lacking:
+        sys.exit("\n".join(["README stays as it is:", *lacking]))
+
+
 def above(crate):
     """What a change of a crate costs, by the table of COSTS."""
-    rows = written_rows()
-    spent, proofs, over = seconds_in(rows, "All, s"), seconds_in(rows, "Proof, s"), standing_on(crate)
-    if crate not in spent:
-        sys.exit(f"{crate}: no row of COSTS")
-    checks = sum(proofs.get(it, 0) for it in over)
+    rows, over = whole_rows(), standing_on(crate)
+    if crate not in rows:
+        sys.exit(f"{crate}: no crate of crates.txt")
+    own, proofs = sum(rows[crate][1]), sum(rows[it][1][0] for it in over)
     print(f"{crate}, in processor minutes of the machine of the last whole run:")
-    print(f"{spent[crate] / 60:5.0f}  its proof, its tests and its edits: rt ci {crate}, where those below it are stored")
-    print(f"{checks / 60:5.0f}  the proofs of the {len(over)} crates that stand on it: rt check")
-    print(f"{(spent[crate] + sum(spent.get(it, 0) for it in over)) / 60:5.0f}  both, with the tests and the edits of these: the gate")
+    print(f"{own / 60:5.0f}  its proof, its tests and its edits: rt ci {crate}, where those below it are stored")
+    print(f"{proofs / 60:5.0f}  the proofs of the {len(over)} crates that stand on it: rt check")
+    print(f"{(own + sum(sum(rows[it][1]) for it in over)) / 60:5.0f}  both, with the tests and the edits of these: the gate")
 
 
-def again():
-    """Makes what follows from the numbers in COSTS again, there and in README."""
-    rows, block = written_rows(), block_of(COSTS)
-    found = re.search(r"^(\d+) processor minutes by the system's count.*?(\d+ minutes by the clock on \d+ processors)\..*$", block, re.M)
-    whole, clock = int(found[1]), found[2]
-    write(COSTS, "\n".join([*table(rows), "", summary(rows, whole, clock)]) + block[found.end() :].rstrip("\n"))
-    write(f"{ROOT}/README.md", sentence(rows, whole, clock))
-
-
-def run(command):
-    """Runs a command: its status, what each crate cost, and the minutes of all, by the system's count and by the clock."""
-    seen, began, used = {}, time.time(), seconds_used()
-    ran = subprocess.Popen(command, cwd=ROOT, stdout=sys.stderr)
-    while ran.poll() is None:
-        look(ran.pid, seen)
-        time.sleep(0.5)
-    costs = {}
-    for (crate, kind), ticks in seen.values():
-        by = costs.setdefault(crate, {})
-        by[kind] = by.get(kind, 0) + ticks / TICK
-    return ran.returncode, costs, round((seconds_used() - used) / 60), by_clock(time.time() - began)
-
-
-def from_nothing():
-    """The command of the whole gate from nothing: a kit that stores what has passed has an option for it."""
-    reported = subprocess.run(["rt", "help"], stdout=subprocess.PIPE, stderr=subprocess.STDOUT, text=True, check=False).stdout
-    return ["rt", "ci", "--anew"] if "--anew" in reported else ["rt", "ci"]
-
-
-def main(command, writes):
-    if writes and command != from_nothing():
-        sys.exit(f"only the run of {' '.join(from_nothing())} is written: it takes nothing that is stored, and leaves no crate out")
-    status, costs, whole, clock = run(command)
-    rows = list(measured_rows(costs))
-    reported = "\n".join([*table(rows), "", summary(rows, whole, clock)])
-    print(reported)
-    if writes:
-        wrong = [f"the command ended with status {status}"] * (status != 0) + list(gaps(costs, whole))
-        if wrong:
-            sys.exit("\n".join(["nothing is written:", *wrong]))
-        write(COSTS, reported)
-        write(f"{ROOT}/README.md", sentence(rows, whole, clock))
-    return status
+def main(words):
+    if words[:1] == ["--note"] and words[1:]:
+        return note(words[1:])
+    if words[:1] == ["--write"] and words[1:]:
+        return write(words[1:])
+    if words == ["--again"]:
+        return write_page(whole_rows(), written("Check"), runs_written())
+    if words[:1] == ["--above"] and len(words) == 2:
+        return above(words[1])
+    sys.exit(__doc__)
 
 
 if __name__ == "__main__":
-    given = sys.argv[1:]
-    if given[:1] == ["--above"] and len(given) == 2:
-        above(given[1])
-    elif given == ["--again"]:
-        again()
-    else:
-        has_flag = given[:1] == ["--write"]
-        sys.exit(main(given[has_flag:] or ["rt", "ci"], has_flag))
+    sys.exit(main(sys.argv[1:]))

@@ -17,7 +17,7 @@ trap 'rm -rf "$work"' EXIT
 [ -n "${PROGRAM-}" ] || "$root/mtc" member "$root/examples/first.member" >/dev/null || exit 70
 program=${PROGRAM:-$root/crates/mtc_main/out/mtc_main}
 python3 -B "$root/bench/quarrel/make_journal.py" "$work/journal"
-(cd "$work" && "$program" export journal >export && least_of_five 0 "$program" quarrel export >least)
+(cd "$work" && "$program" export journal >"export" && least_of_five 0 "$program" quarrel export >least)
 echo "\`quarrel\`, $(stat -c %s "$work/export") bytes: $(tr '|' ' ' <"$work/least")" >&2
 [ "$(cat "$work/found")" = agree ] || { echo "wrong: $(cat "$work/found")"; exit 1; }
 
