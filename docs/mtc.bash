@@ -1,9 +1,9 @@
 # Completes the arguments of mtc in bash: source docs/mtc.bash. Made by tests/manual.sh from docs/COMMANDS.md.
-# shellcheck shell=bash disable=SC2207
+# shellcheck shell=bash
 _mtc() {
     local word=${COMP_WORDS[COMP_CWORD]} kinds=()
     if [ "$COMP_CWORD" -eq 1 ]; then
-        COMPREPLY=($(compgen -W 'member show verify init-log issue issue-list checkpoint entries entries-from consist subtree keygen init-cosigner init-cosigner2 advance child cosign export landmark landmarks light-cert light-certs switch tile tile-anew trust-landmarks cert certs mirror-init mirror-take mirror-tile mirror-entries mirror-advance mirror-cosign audit quarrel drill root held monitor-init monitor help version' -- "$word"))
+        mapfile -t COMPREPLY < <(compgen -W 'member show verify init-log issue issue-list checkpoint entries entries-from consist subtree keygen init-cosigner init-cosigner2 advance child cosign export landmark landmarks light-cert light-certs switch tile tile-anew trust-landmarks cert certs mirror-init mirror-take mirror-tile mirror-entries mirror-advance mirror-cosign audit quarrel drill root held monitor-init monitor help version' -- "$word")
         return
     fi
     case ${COMP_WORDS[1]} in
@@ -50,9 +50,9 @@ _mtc() {
         monitor) kinds=(STATE WATCH REQUEST ENTRIES) ;;
     esac
     case ${kinds[COMP_CWORD - 2]-} in
-        J | S | M | FILE | CERT | STORE | REQUEST | REQUESTS | SECRET | SIGNATURES | LIST | ENTRIES | EXPORT | STATE | WATCH) COMPREPLY=($(compgen -f -- "$word")) ;;
-        HEIGHT | TOP | LOW) COMPREPLY=($(compgen -W '5 10' -- "$word")) ;;
-        WIDTH) COMPREPLY=($(compgen -W '1 2 4 8' -- "$word")) ;;
+        J | S | M | FILE | CERT | STORE | REQUEST | REQUESTS | SECRET | SIGNATURES | LIST | ENTRIES | EXPORT | STATE | WATCH) mapfile -t COMPREPLY < <(compgen -f -- "$word") ;;
+        HEIGHT | TOP | LOW) mapfile -t COMPREPLY < <(compgen -W '5 10' -- "$word") ;;
+        WIDTH) mapfile -t COMPREPLY < <(compgen -W '1 2 4 8' -- "$word") ;;
         *) COMPREPLY=() ;;
     esac
 }
