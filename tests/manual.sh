@@ -48,10 +48,11 @@ man_page() {
         printf '.TP\n.B %s\n' "$status"
         printf '%s.\n' "$comes" | as_roff
     done
-    printf '.SH REFUSALS\nBy the name in the line on standard error, or after refused: what to do. OPERATIONS is docs/OPERATIONS.md.\n'
-    table Name 'What to do' | while IFS='|' read -r names advice; do
+    printf '.SH REFUSALS\nBy the name in the line on standard error, or after refused: the status, the commands, what it means, and what to do.\n'
+    printf 'OPERATIONS is docs/OPERATIONS.md.\n'
+    table Name Status | while IFS='|' read -r names status commands means advice; do
         printf '.TP\n'
-        printf '%s\n%s.\n' "$names" "$advice" | as_roff
+        printf '%s (%s%s)\n%s\n%s\n' "$names" "$status" "${commands:+; $commands}" "$means" "$advice" | as_roff
     done
     printf '.SH FILES\n'
     table File 'Made by' docs/OPERATIONS.md | sed -E 's/ \(\[[^]]*\]\([^)]*\)\)//g' | while IFS='|' read -r file makers keepers lost; do
@@ -153,7 +154,7 @@ touch "$folder/a b.cert" "$folder/a c.cert"
 if command -v shellcheck >"$folder/void"; then
     shellcheck -S warning docs/mtc.bash || complain "docs/mtc.bash"
 fi
-# Each name of a refusal that a line of What to do begins with stands in the man page.
+# The list of refusals stands in the man page.
 grep -q '^\.SH REFUSALS$' docs/mtc.1 && grep -q 'fBNotCovered' docs/mtc.1 || complain "the refusals in the man page"
 
 # The program and the table. A program that can't be built is not asked again for each command.
