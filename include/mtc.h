@@ -190,8 +190,8 @@ uint32_t mtc_entry_hash(const uint8_t *cert, size_t cert_length, uint8_t *out, s
                         uint64_t *length);
 
 /*
- * The same in a form: it is 2 where the store has an `algorithm_from` that isn't above the index,
- * and else 1; MTC_BAD_FORM answers any other number.
+ * As mtc_entry_hash, for a given form: 2 if the store's `algorithm_from` is at most the entry's
+ * index, and 1 otherwise. MTC_BAD_FORM answers any other number.
  */
 uint32_t mtc_entry_hash_in(const uint8_t *cert, size_t cert_length, uint32_t form, uint8_t *out,
                            size_t out_length, uint64_t *length);
