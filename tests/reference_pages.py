@@ -8,7 +8,7 @@ Usage: tests/reference_pages.py            says which pages are not what it make
 import sys
 
 import beliefs
-from checks import comments, places
+from checks import citations, comments, places
 from checks.citations import CRATES, below
 from checks.sources import ROOT
 
@@ -150,6 +150,22 @@ def clauses_page():
         *(line for crate in with_some for line in clauses_of_crate(crate))])
 
 
+# ---- promises
+
+
+def promises_page():
+    lines = ["# What carries each promise", "", MADE.replace("the sources", "tests/promises.txt"), "",
+             "The calls of each promise of [PROMISES](../PROMISES.md), with the clauses that carry it; where no clause is named, the whole "
+             "contract of the call does. [CLAUSES](CLAUSES.md) has each call.", ""]
+    section = ""
+    for _, part, title, _ in citations.promises():
+        if part != section:
+            lines += [f"## {part}", ""]
+            section = part
+        lines += [f"### {title}", "", *(f"- {one}" for one in citations.carried().get(title, ())), ""]
+    return written(lines)
+
+
 # ---- crates
 
 
@@ -178,7 +194,7 @@ def crates_page():
 
 
 def pages():
-    return {"DEFINITIONS.md": definitions_page, "CLAUSES.md": clauses_page, "CRATES.md": crates_page,
+    return {"DEFINITIONS.md": definitions_page, "CLAUSES.md": clauses_page, "CRATES.md": crates_page, "PROMISES.md": promises_page,
             "TRUSTED.md": lambda: beliefs.page(MADE)}
 
 

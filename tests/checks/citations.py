@@ -99,31 +99,49 @@ def is_known(span, names):
     return all(part in known for part in re.split(r"::|\.|/", span) if part)
 
 
-# ---- PROMISES
+# ---- PROMISES, and tests/promises.txt, which has what carries each promise
+
+CARRIED = ROOT / "tests" / "promises.txt"
 
 
 def promises():
-    """(line, cells) for each row of the tables of promises."""
-    is_in = False
+    """(line, section, title, cells) for each row of the tables of promises; no title where the first cell has none."""
+    is_in, section = False, ""
     for number, line in enumerate((DOCS / "PROMISES.md").read_text().split("\n"), 1):
+        section = line.removeprefix("## ") if line.startswith("## ") else section
         is_in = line.startswith("| Promise |") or is_in and line.startswith("|")
         if is_in and not re.match(r"\| Promise \||\|-", line):
-            yield number, cells_of(line)
+            cells = cells_of(line)
+            title = re.match(r"\*\*\[(.*?)\]\(reference/PROMISES\.md#[\w-]+\)\.\*\* ", cells[0])
+            yield number, section, title and title[1], cells
 
 
-def cited_in(cell):
-    """(calls, clauses) for each part of a cell: `crate::call`, `crate::call`: `clause`, `clause`; .."""
-    for part in cell.split("; "):
+@cache
+def carried():
+    """What carries each promise, by its title: for each part the calls and their clauses, as they are written."""
+    found, title = {}, ""
+    for line in CARRIED.read_text().split("\n"):
+        if line.startswith("    "):
+            found[title].append(line.strip())
+        elif line and not line.startswith("#"):
+            title = line
+            found[title] = []
+    return found
+
+
+def cited_in(parts):
+    """(calls, clauses) for each part: `crate::call`, `crate::call`: `clause`, `clause`"""
+    for part in parts:
         calls, _, clauses = part.partition(": ")
         yield [one for span in SPAN.findall(calls) for one in expanded(span)], SPAN.findall(clauses)
 
 
-def wrong_parts(cell):
-    for calls, clauses in cited_in(cell):
+def wrong_parts(parts):
+    for calls, clauses in cited_in(parts):
         found = [call_of(one, []) for one in calls]
         yield from (f"there is no call `{one}`" for one, call in zip(calls, found) if not call)
         if not calls:
-            yield f"no call carries {', '.join(clauses) or cell}"
+            yield f"no call carries {', '.join(clauses) or parts}"
         named = [call for call in found if call]
         for clause in clauses:
             if not is_label(clause, named) and not is_said(clause, named):
@@ -131,15 +149,20 @@ def wrong_parts(cell):
 
 
 def check_promises():
-    """each promise of PROMISES has its words, what it supposes, and a call with its clauses, which are there"""
-    count = 0
-    for number, cells in promises():
-        count += 1
-        if len(cells) != 3 or not all(cells):
-            yield f"docs/PROMISES.md:{number}: a promise has three cells, and none is empty"
-        else:
-            yield from (f"docs/PROMISES.md:{number}: {what}" for what in wrong_parts(cells[2]))
-    if not count:
+    """each promise of PROMISES has its words, what it supposes, and in tests/promises.txt a call with its clauses, which are there"""
+    titles = []
+    for number, _, title, cells in promises():
+        titles.append(title)
+        if len(cells) != 2 or not all(cells) or not title:
+            yield f"docs/PROMISES.md:{number}: a promise has two cells, none is empty, and the first begins with a title that is a link"
+    shown_as = [title for title in titles if title]
+    if shown_as != list(carried()):
+        yield f"docs/PROMISES.md and tests/promises.txt differ, or their order does: {', '.join(sorted(set(shown_as) ^ set(carried())))}"
+    for title, parts in carried().items():
+        yield from (f"tests/promises.txt, {title}: {what}" for what in wrong_parts(parts))
+        if not parts:
+            yield f"tests/promises.txt, {title}: nothing carries it"
+    if not titles:
         yield "docs/PROMISES.md: no promise was found"
 
 
