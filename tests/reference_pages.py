@@ -190,6 +190,18 @@ def crates_page():
     return written(lines)
 
 
+def layers():
+    """The groups of crates as a picture of lines, lowest first: each with the groups on which its crates stand, but those that follow."""
+    groups = dict(comments.groups_of_crates())
+    group_of = {name: group for group, names in groups.items() for name in names}
+    under = {group: {group_of[need] for name in names for need in CRATES[name].needs if need in group_of} - {group}
+             for group, names in groups.items()}
+    width = max(map(len, groups)) + 2
+    lines = [f"{group:{width}}" + ", ".join(one for one in groups if one in under[group] and not any(one in under[other] for other in under[group]))
+             for group in groups]
+    return "\n".join(["```text", *map(str.rstrip, lines), "```"])
+
+
 # ---- all pages
 
 
@@ -201,7 +213,7 @@ def pages():
 def parts():
     """The parts of pages by hand that are made: (page, its mark, what stands there)."""
     return [("BELIEFS.md", "trusted", beliefs.summary()), ("BELIEFS.md", "edits", beliefs.edits_summary()),
-            ("CONTRIBUTING.md", "places", places.table())]
+            ("CONTRIBUTING.md", "places", places.table()), ("ARCHITECTURE.md", "layers", layers())]
 
 
 def with_part(text, mark, part):
