@@ -31,8 +31,18 @@ def written(records):
     return HEADER + b"".join(bytes([OPEN]) + len(body).to_bytes(4, "big") + body for body in records) + bytes([CLOSED])
 
 
+def end_of(text):
+    """The offset of the closed commit byte that ends the records."""
+    return len(HEADER) + sum(5 + len(body) for body in bodies(text))
+
+
 def appended(text, body):
     """The journal after an append: the commit byte that ended it is open, and what stood after the record stays."""
-    end = len(HEADER) + sum(5 + len(one) for one in bodies(text))
+    end = end_of(text)
     record = bytes([OPEN]) + len(body).to_bytes(4, "big") + body + bytes([CLOSED])
     return text[:end] + record + text[end + len(record):]
+
+
+def cut_off(text):
+    """A file whose journal is this one, where zeros stand after its end: an append cuts off what stood there."""
+    return text[:end_of(text) + 1].ljust(len(text), bytes([CLOSED]))
