@@ -18,7 +18,7 @@ figures() {
     done
 }
 
-# Lines SCRIPT|WORK|AGAINST|LOW|HIGH|as it is shown, of lines SCRIPT|WORK|AGAINST|RATIO ..|DAY.
+# Lines SCRIPT|WORK|AGAINST|LOW|HIGH|as it is shown|DAY, of lines SCRIPT|WORK|AGAINST|RATIO ..|DAY.
 ranges() {
     figures hashes signatures judging proofs opening audit/ratios quarrel | awk -F '|' '
         function shown(ratio) { return ratio < 1000 ? ratio : sprintf("%d,000", ratio / 1000 + 0.5) }
@@ -30,21 +30,21 @@ ranges() {
                 if (ratio[at] + 0 > high + 0) high = ratio[at]
             }
             both = shown(low) == shown(high) ? shown(low) : shown(low) " to " shown(high)
-            print $1 "|" $2 "|" $3 "|" low "|" high "|" both
+            print $1 "|" $2 "|" $3 "|" low "|" high "|" both "|" $5
         }'
 }
 
 ranges >"$folder/ranges"
 {
-    echo "| Work | Against | Ratio | Script |"
-    echo "|---|---|---|---|"
-    awk -F '|' '{ print "| " $2 " | " $3 " | " $6 " | `bench/" $1 ".sh` |" }' "$folder/ranges"
+    echo "| Work | Against | Ratio | Script | Day |"
+    echo "|---|---|---|---|---|"
+    awk -F '|' '{ print "| " $2 " | " $3 " | " $6 " | `bench/" $1 ".sh` | " $7 " |" }' "$folder/ranges"
 } >"$folder/ratios"
 {
-    echo "| Work | Of | Seconds | Memory | Script |"
-    echo "|---|---|---|---|---|"
-    figures log largest cosigners mirrors trust audit monitor extensions | awk -F '|' '{ print "| " $2 " | " $3 " | " $4 " | " $5 " | `bench/" $1 ".sh` |" }' |
-        sed -E ':again; s/([0-9])([0-9]{3})($|[^0-9])/\1,\2\3/; t again'
+    echo "| Work | Of | Seconds | Memory | Script | Day |"
+    echo "|---|---|---|---|---|---|"
+    figures log largest cosigners mirrors trust audit monitor extensions | awk -F '|' '{ print "| " $2 " | " $3 " | " $4 " | " $5 " | `bench/" $1 ".sh` | " $6 " |" }' |
+        sed -E ':again; s/([0-9])([0-9]{3})($|[^0-9-])/\1,\2\3/; t again'
 } >"$folder/times"
 
 python3 -B bench/sizes.py >"$folder/sizes" || exit 1
@@ -67,8 +67,8 @@ shown='
         return text + 0 ? text + 0 : 1
     }'
 {
-    echo "| Certificates, and the log | Issued, s | Certified, s | Verified, s | All, by the clock, s | Syncs, s | A second |"
-    echo "|---|---|---|---|---|---|---|"
+    echo "| Certificates, and the log | Issued, s | Certified, s | Verified, s | All, by the clock, s | Syncs, s | A second | Day |"
+    echo "|---|---|---|---|---|---|---|---|"
     # The lines of one way stand one below the other: issuing, certifying, verifying and all of it.
     figures issuing | awk -F '|' "$shown"'
         $3 !~ / certificates?, at / { next }
@@ -76,21 +76,21 @@ shown='
         $2 !~ /^from / { seconds[++parts] = $4; split($6, sync, " "); syncs += sync[1]; calls += sync[3]; next }
         {
             clock = $5 != "" ? $5 : ""
-            printf "| %s | %s | %s | %s | %s | %s | %s |\n", spaced($3), seconds[1], seconds[2], verified, clock,
-                calls ? sprintf("%.3f in %d", syncs, calls) : "", a_second(count_of($3), clock != "" ? clock : $4)
+            printf "| %s | %s | %s | %s | %s | %s | %s | %s |\n", spaced($3), seconds[1], seconds[2], verified, clock,
+                calls ? sprintf("%.3f in %d", syncs, calls) : "", a_second(count_of($3), clock != "" ? clock : $4), $7
             parts = syncs = calls = 0
         }'
-    printf '\n| Work alone | Of | Processor, s | By the clock, s | Syncs, s | A second |\n|---|---|---|---|---|---|\n'
+    printf '\n| Work alone | Of | Processor, s | By the clock, s | Syncs, s | A second | Day |\n|---|---|---|---|---|---|---|\n'
     figures verifying issuing | awk -F '|' "$shown"'
         $3 ~ / certificates?, at / { next }
-        { printf "| %s | %s | %s | %s | %s | %s |\n", $2, spaced($3), $4, $5, $6, a_second(count_of($3), $5 != "" ? $5 : $4) }'
+        { printf "| %s | %s | %s | %s | %s | %s | %s |\n", $2, spaced($3), $4, $5, $6, a_second(count_of($3), $5 != "" ? $5 : $4), $7 }'
 } >"$folder/rates"
 {
-    echo "| Command | Of | Seconds | Memory | Instructions |"
-    echo "|---|---|---|---|---|"
+    echo "| Command | Of | Seconds | Memory | Instructions | Day |"
+    echo "|---|---|---|---|---|---|"
     { figures commands/instructions | sed "s/^/counted|/"; figures commands; } | awk -F '|' '
         $1 == "counted" { instructions[$3, $4] = $5; next }
-        { print "| " $2 " | " $3 " | " $4 " | " $5 " | " instructions[$2, $3] " |" }'
+        { print "| " $2 " | " $3 " | " $4 " | " $5 " | " instructions[$2, $3] " | " $6 " |" }'
 } >"$folder/commands"
 
 # A page with these tables between their marks.
