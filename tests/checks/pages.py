@@ -142,3 +142,41 @@ def check_paths():
         for number, line in enumerate(text.split("\n"), 1):
             if machine.search(line):
                 yield f"{shown(path, number)}: {line.strip()[:80]}"
+
+
+# ---- figures
+
+MEASURED = (DOCS / "SPEED.md", ROOT / "bench" / "TIMES.md")
+FIGURE = re.compile(r"(\d[\d,]*(?:\.\d+)?) (?:of the )?(?:processor )?(s|seconds|MB|bytes)\b(?! (?:for|file))")
+
+
+def number(text):
+    return float(text.replace(",", ""))
+
+
+@cache
+def in_tables():
+    """The figures of the tables that scripts make of bench/*/figures.txt, by their unit: seconds, MB and bytes."""
+    found = {"s": set(), "MB": set(), "bytes": set()}
+    for path in MEASURED:
+        for mark, table in re.findall(r"<!-- (\w+): begin -->(.*?)<!-- \1: end -->", path.read_text(), re.S):
+            found["MB"] |= set(map(number, re.findall(r"([\d,]+) MB", table)))
+            found["bytes"] |= set(map(number, re.findall(r"\| ([\d,]+) ", table))) if mark == "sizes" else set()
+            found["s"] |= set(map(number, re.findall(r"\| (\d+\.\d+) ", table)))
+    return found
+
+
+def is_measured(text, unit):
+    """Whether a table has a number that is this one when it is rounded as the page rounds it."""
+    places = len(text.partition(".")[2])
+    return any(round(one, places) == number(text) for one in in_tables()["s" if unit == "seconds" else unit])
+
+
+def check_figures():
+    """a figure of a line that links SPEED or TIMES stands in a table of them, as rounded there"""
+    for path in by_hand():
+        for line_number, line in enumerate(path.read_text().split("\n"), 1):
+            if path in MEASURED or not re.search(r"\]\([\w./]*(?:SPEED|TIMES)\.md\)", line):
+                continue
+            yield from (f"{shown(path, line_number)}: no table has {text} {unit}" for text, unit in FIGURE.findall(line)
+                        if not is_measured(text, unit))
