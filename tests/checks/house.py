@@ -200,9 +200,8 @@ def without_costs():
                 zip(gate_costs.differing().items(), ("crates.txt", ".ci/run")) for name in names)
 
 
-# What scripts make in a page by hand is left out of its words.
-MADE = re.compile(r"<!-- (\w+): begin.*?<!-- \1: end -->", re.S)
-COUNTED = ("BELIEFS.md", "PROMISES.md")
+# What scripts make in a page by hand, and what it quotes of the sources, is left out of its words.
+MADE = re.compile(r"<!-- (\w+): begin.*?<!-- \1: end -->|^```(?:antt|rust)$.*?^```$", re.S | re.M)
 LIMITED = {"lengths": long_parts, "columns": wide_lines, "imports": unused_names, "comments": without_comment, "costs": without_costs,
            "waiting": waiting_edits, "scripts": warnings_of_scripts, "chain": named.longest_chain}
 
@@ -277,11 +276,12 @@ def remarks_of_costs():
 
 
 def check_words():
-    """a page whose length counts has no more words than tests/limits.txt lets through"""
-    for name in COUNTED:
-        count, most = len(MADE.sub("", (DOCS / name).read_text()).split()), limits().get(("words", name), 0)
+    """README and each page of docs by hand has no more words than tests/limits.txt lets through"""
+    for path in [ROOT / "README.md", *sorted(DOCS.glob("*.md"))]:
+        count = len(re.findall(r"\S*\w\S*", MADE.sub("", path.read_text())))
+        most = limits().get(("words", path.name), 0)
         if count > most:
-            yield f"{name} has {count} words, and tests/limits.txt lets {most} through"
+            yield f"{path.name} has {count} words, and tests/limits.txt lets {most} through"
 
 
 def lower_limits():
