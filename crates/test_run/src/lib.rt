@@ -50,6 +50,8 @@ mod exports;
 #[cfg(test)]
 mod hashes;
 #[cfg(test)]
+mod large_log;
+#[cfg(test)]
 mod logs;
 #[cfg(test)]
 mod marks;

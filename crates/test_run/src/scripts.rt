@@ -11,6 +11,7 @@
 //! again F         a file that is there, as it then is
 //! times N BYTES   so many times these bytes
 //! cut N           of its bytes the first N alone
+//! from F N M      the bytes of a file from its offset N up to M
 //! byte N HEX      another byte at its offset N
 //! fails N ..      the calls on it that fail
 //! fresh N ..      the calls that fail on each file that is made
@@ -169,6 +170,17 @@ impl Script {
         Some(true)
     }
 
+    // The bytes of a file from an offset up to another one: `F N M`.
+    fn append_part(&mut self, words: &str) -> Option<bool> {
+        let (name, rest) = parted(words);
+        let (start, end) = parted(rest);
+        let (start, end) = (start.parse::<usize>().ok()?, end.parse::<usize>().ok()?);
+        match self.desk.bytes(name)?.get(start..end) {
+            Some(piece) => self.block.append(piece),
+            None => Some(false),
+        }
+    }
+
     fn end_name(&mut self) -> Option<bool> {
         let name = self.block.take_name();
         let bytes = self.block.take();
@@ -323,6 +335,7 @@ impl Script {
             "#" => Some(true),
             "" => self.append(words),
             "times" => self.append_times(words),
+            "from" => self.append_part(words),
             "|" => self.block.append_text(words, "\n"),
             "|=" => self.block.append_text(words, ""),
             "byte" => self.block.change(words),
@@ -386,9 +399,9 @@ pub fn desk_after(alloc: Global, names: &str, text: &str) -> Option<Desk> {
 
 // Scripts that fail in their last line: another status, no line of an error, an output that isn't
 // written, bytes that a file doesn't have, a file that is there, a cut after the end, no such line,
-// a status of no run, an output of a refusal, a file that isn't there, files that differ, and
-// another length.
-const WRONG: [&str; 12] = [
+// a status of no run, an output of a refusal, a file that isn't there, files that differ, another
+// length, and a part after the end.
+const WRONG: [&str; 13] = [
     "$ frob\n! mtc: UnknownCommand",
     "$ frob\nstatus 1",
     "$ frob\nstatus 1\n! mtc: UnknownCommand\n| frob",
@@ -401,6 +414,7 @@ const WRONG: [&str; 12] = [
     "again f",
     "file f 00\nfile g 01\nsame f g",
     "file f 00\nlength f 2",
+    "file f 00\nfile g\nfrom f 0 2",
 ];
 
 #[test]
