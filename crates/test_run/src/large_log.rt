@@ -1,8 +1,15 @@
 //! A log of 1,024 entries, with keys of P-256 and two names each, of which three cosigners sign the
 //! whole: what is judged and audited of a certificate, and that it is the same over tiles.
 
-use crate::scripts::{Outcome, outcome_after};
+use crate::desk::Desk;
+use crate::scripts::{Outcome, ended_after};
+use collide::Finding;
+use cosigner_core::{Step, read_export};
+use entry_list::read_items;
+use mtc_io::Memory;
 use std::alloc::Global;
+use tree_core::Sha;
+use world_core::{has_prefix, held_by, walk};
 
 // The generator of P-256 as a key (RFC 5480).
 const KEY: &str = "MFkwEwYHKoZIzj0CAQYIKoZIzj0DAQcDQgAEaxfR8uEsQkf4vOblY6RA8ncDfYEt6zOg9KE5RdiYwpZ\
@@ -241,14 +248,44 @@ $ cert j 1000 0 1024 signatures
 same cert over_tiles
 "#;
 
-// How the script ends.
-fn outcome(alloc: Global) -> Option<Outcome> {
+// The walk from the step with this number to a list; none where a file doesn't read, where the step
+// is no Sign, or where the list doesn't begin with what the cosigner holds.
+fn walked(
+    alloc: Global,
+    list: &[u8],
+    export: &[u8],
+    sign: usize,
+) -> Option<Result<Finding, Memory>> {
+    let items = read_items::<Sha>(alloc, list).ok()?;
+    let kept = read_export::<Sha>(alloc, export).ok()??;
+    let steps = kept.steps.as_slice();
+    if !has_prefix::<Sha, _>(&items.entries(), &held_by::<Sha>(steps)) {
+        return None;
+    }
+    match steps.get(sign) {
+        Some(Step::Sign { .. }) => Some(walk::<Sha>(alloc, &items, &kept, sign)),
+        _ => None,
+    }
+}
+
+// Whether the first cosigner's signature is of the log's own entries.
+fn is_of_entries(alloc: Global, desk: &Desk) -> Option<bool> {
+    let found = walked(alloc, desk.bytes("entries")?, desk.bytes("export")?, 1)?;
+    Some(matches!(found, Ok(Finding::Same)))
+}
+
+// How the script ends, and whether the signature is of the entries.
+fn ended(alloc: Global) -> Option<(Outcome, Option<bool>)> {
     let names = names(alloc)?;
-    outcome_after(alloc, names.as_str(), CASES).ok()
+    let (outcome, desk) = ended_after(alloc, names.as_str(), CASES).ok()?;
+    Some((outcome, is_of_entries(alloc, &desk)))
 }
 
 #[test]
 fn certificates_of_a_large_log(rt: HostRuntime) {
-    let outcome = outcome(rt.alloc());
-    assert!(rt; outcome == Some(Outcome::Passed(37)), "{outcome:?}");
+    let ended = ended(rt.alloc());
+    assert!(rt;
+        ended == Some((Outcome::Passed(37), Some(true))),
+        "{ended:?}"
+    );
 }

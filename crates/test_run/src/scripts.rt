@@ -379,20 +379,29 @@ pub fn outcome_of(alloc: Global, text: &str) -> Result<Outcome, Unread> {
     script.play(text).ok_or(Unread)
 }
 
+/// How a script ends that continues after the names and files of another one, and the file system
+/// that it leaves.
+pub fn ended_after(alloc: Global, names: &str, text: &str) -> Result<(Outcome, Desk), Unread> {
+    let mut script = new_script(alloc);
+    let Some(Outcome::Passed(_)) = script.play(names) else {
+        return Err(Unread);
+    };
+    match script.play(text) {
+        Some(outcome) => Ok((outcome, script.desk)),
+        None => Err(Unread),
+    }
+}
+
 /// How a script ends that continues after the names of another one.
 pub fn outcome_after(alloc: Global, names: &str, text: &str) -> Result<Outcome, Unread> {
-    let mut script = new_script(alloc);
-    match script.play(names) {
-        Some(Outcome::Passed(_)) => script.play(text).ok_or(Unread),
-        _ => Err(Unread),
-    }
+    let (outcome, _desk) = ended_after(alloc, names, text)?;
+    Ok(outcome)
 }
 
 /// The file system that a script leaves after the names of another one, if both pass.
 pub fn desk_after(alloc: Global, names: &str, text: &str) -> Option<Desk> {
-    let mut script = new_script(alloc);
-    match (script.play(names), script.play(text)) {
-        (Some(Outcome::Passed(_)), Some(Outcome::Passed(_))) => Some(script.desk),
+    match ended_after(alloc, names, text) {
+        Ok((Outcome::Passed(_), desk)) => Some(desk),
         _ => None,
     }
 }
