@@ -4,16 +4,17 @@ afterwards is on the disk.
 
 A Linux system takes a page whose sync failed for written, keeps it in memory, and answers the next sync with Ok. On ext4 a
 block that was new to its file then keeps its zeros on the disk, whatever is written to it. So after a sync that failed the
-program cuts the file off behind what is on the disk, and closes a commit byte that it had opened. The disk here is one in memory (zram) that refuses while its memory is
-limited; what a power cut would leave is read from it with no page of the system's memory in between, and mounted as a copy.
-Needs root, zram disks, loop devices and strace; where they aren't there it says that this is left out, and ends with status 0.
-Not part of the gate. Usage: tests/failed_sync.py [PROGRAM [CHECK ..]]
+program closes a commit byte that it had opened, and cuts the file off behind what is on the disk. The disk here is one in
+memory (zram) that refuses while its memory is limited; what a power cut would leave is read from it with no page of the
+system's memory in between, and mounted as a copy. Needs root, zram disks, loop devices and strace; where they aren't there it
+says that this is left out, and ends with status 0. Not part of the gate. Usage: tests/failed_sync.py [PROGRAM [CHECK ..]]
 """
 
 import mmap
 import os
 import re
 import shutil
+import signal
 import subprocess
 import sys
 import tempfile
@@ -112,15 +113,23 @@ def syncs(program, disk, words):
     return trace_of(trace).count("fsync(")
 
 
-def stopped(program, disk, from_end, words):
-    """What a command answers of whose syncs this one, counted from the last, is refused by the disk, and all that follow."""
+def stopped(program, disk, from_end, words, killed_at=None):
+    """What a command answers of whose syncs this one, counted from the last, is refused by the disk, and all that follow. It is
+    killed before it learns that this sync failed, or where it cuts the file off after that (`fsync` or `ftruncate`), or not."""
     trace, sync = disk.path.parent / "trace", syncs(program, disk, words) - from_end
     trace.unlink()
-    waits = ["strace", "-qq", "-o", trace, "-e", "trace=pwrite64,fsync", "-e", f"inject=fsync:delay_enter=2000000:when={sync}"]
+    waits = ["strace", "-qq", "-o", trace, "-e", "trace=pwrite64,fsync,ftruncate"]
+    waits += ["-e", f"inject=fsync:delay_enter=2000000:delay_exit={1000000 * (killed_at == 'fsync')}:when={sync}"]
+    waits += ["-e", "inject=ftruncate:signal=KILL"] if killed_at == "ftruncate" else []
     process = subprocess.Popen([*waits, program, *words], cwd=disk.path, stdout=subprocess.PIPE, stderr=subprocess.PIPE)
     while process.poll() is None and trace_of(trace).count("fsync(") < sync:
         time.sleep(0.01)
     disk.refuse(True)
+    if killed_at == "fsync":
+        while process.poll() is None and " = -1 EIO" not in trace_of(trace):
+            time.sleep(0.01)
+        children = Path(f"/proc/{process.pid}/task/{process.pid}/children").read_text().split()
+        os.kill(int(children[0]), signal.SIGKILL)
     out, err = process.communicate()
     disk.refuse(False)
     return process.returncode, out.decode(), err.decode()
@@ -264,6 +273,37 @@ def check_tiles_anew(program, disk):
                           (4, "", "mtc: tile: NothingNew\n"))
 
 
+def check_killed(program, disk):
+    """A command is killed while its sync fails, or where it undoes what it wrote, and what is acknowledged afterwards is on the disk"""
+    words = ["issue", "j", "long"]
+    # Where it undid nothing, the log has the record of which the last sync failed, in memory: the next command puts it on the disk.
+    for what, sync, at, there in (("record", RECORD, "fsync", 2), ("commit byte", COMMIT_BYTE, "fsync", 3), ("undoing", COMMIT_BYTE, "ftruncate", 2)):
+        yield from new_log(program, disk)
+        request(disk.path, "long", 60)
+        yield from unlike(f"the issue that is killed, {what}", stopped(program, disk, sync, words, at)[0], -signal.SIGKILL)
+        yield from unlike(f"{what}: the size after a power cut now", disk.cut(lambda copy: size(program, copy)), 2)
+        yield from (f"{what}: {line}" for line in continues(program, disk, there))
+
+
+def check_killed_tiles(program, disk):
+    """`tile` and `tile-anew` are killed while the sync of the tiles fails; `tile` given again, and `tile-anew` once the tile file is
+    moved away, write the tiles to the disk"""
+    for words, sync in ((["tile", "j"], TILES), (["tile-anew", "j"], LAST)):
+        long_log(disk)
+        tiles = disk.path / "j.tiles"
+        if sync == LAST:
+            yield from unlike("tile", run(program, disk.path, "tile", "j"), (0, "tiled 512\n", ""))
+            tiles.unlink()
+            os.sync()
+        yield from unlike(f"the {words[0]} that is killed", stopped(program, disk, sync, words, "fsync")[0], -signal.SIGKILL)
+        if sync == LAST:
+            tiles.rename(disk.path / "away")
+        yield from unlike(f"{words[0]} given again", run(program, disk.path, *words), (0, "tiled 512\n", ""))
+        yield from unlike(f"{words[0]}: the size after a power cut", disk.cut(lambda copy: size(program, copy)), 600)
+        yield from unlike(f"{words[0]}: tile after it", disk.cut(lambda copy: run(program, copy, "tile", "j")),
+                          (4, "", "mtc: tile: NothingNew\n"))
+
+
 def signed(program, folder, part="part"):
     """The number of the one-time key of one more signature by the cosigner, or what is wrong."""
     status, out, err = run(program, folder, "cosign", "s", part)
@@ -355,7 +395,8 @@ def check_new_blocks(program, disk):
     yield from unlike("the next key after a power cut", disk.cut(lambda copy: signed(program, copy, "after")), keys + 1)
 
 
-CHECKS = (check_commit_byte, check_mapped, check_large, check_record, check_first, check_tiles, check_tiles_anew, check_key, check_new_blocks)
+CHECKS = (check_commit_byte, check_mapped, check_large, check_record, check_first, check_tiles, check_tiles_anew, check_killed,
+          check_killed_tiles, check_key, check_new_blocks)
 
 
 def missing():

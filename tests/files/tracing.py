@@ -106,10 +106,10 @@ def appending(command):
 
 
 def undoing(command, call):
-    """The calls that follow where this call of `appending`, counted from its end, is a sync that fails: the file is cut off, and after
-    the sync of a commit byte that is closed again."""
+    """The calls that follow where this call of `appending`, counted from its end, is a sync that fails: after that of a commit byte
+    this is closed again, and the file is cut off."""
     kind, file = appending(command)[-call].split()
     if kind != "fsync":
         return []
     is_commit_byte = call == 1 and file == command.journal
-    return [f"ftruncate {file}", *[f"pwrite64 {file}"] * is_commit_byte]
+    return [*[f"pwrite64 {file}"] * is_commit_byte, f"ftruncate {file}"]

@@ -20,9 +20,11 @@ pub enum Content {
 /// take them for written. On some file systems, as ext4, bytes that were new to the file then never
 /// come to the disk, not even if they are written again. So after a sync that failed the file is
 /// cut off behind the bytes that are on the disk, and a byte that was written over has its former
-/// value again. What is written there later is new to the file. A command that is killed in the
-/// meantime leaves bytes after the end of a journal: the next append cuts them off before it
-/// writes, and the file is as long as before.
+/// value again. What is written there later is new to the file.
+///
+/// A command that is killed in the meantime leaves bytes after the end of a journal, or tiles that
+/// no record covers. The next append, and the next write of tiles that begins after all that was
+/// read or written, cuts these off before it writes, and the file is as long as before.
 #[derive(Drop)]
 pub struct Written<F> {
     file: F,
@@ -31,7 +33,9 @@ pub struct Written<F> {
     length: Cell<u64>,
     // How many of them are on the disk, but for a byte that was written over.
     synced: Cell<u64>,
-    // The offset of such a byte, and its former value.
+    // Where the bytes end that were read or written.
+    used: Cell<u64>,
+    // The offset of a byte that was written over, and its former value.
     former: Cell<Option<(u64, u8)>>,
 }
 
@@ -44,6 +48,7 @@ impl<F: OpenFile + FileExt + Drop> Written<F> {
             content,
             length: Cell::new(length),
             synced: Cell::new(length),
+            used: Cell::new(0),
             former: Cell::new(None),
         })
     }
@@ -61,9 +66,18 @@ impl<F: OpenFile + FileExt + Drop> Written<F> {
             }
             Content::Tiles => {
                 self.synced.set(offset);
-                Ok(())
+                if offset >= self.used.get() {
+                    self.cut_off(offset)
+                } else {
+                    Ok(())
+                }
             }
         }
+    }
+
+    // Notes that bytes up to an offset were read or written.
+    fn use_to(&self, end: u64) {
+        self.used.set(self.used.get().max(end));
     }
 
     // Remembers the byte at an offset.
@@ -81,13 +95,14 @@ impl<F: OpenFile + FileExt + Drop> Written<F> {
         self.file.set_len(self.length.get())
     }
 
-    // Removes what was written since the last sync that answered Ok.
-    fn undo(&self) -> io::Result<()> {
-        self.file.set_len(self.synced.get())?;
-        match self.former.get() {
-            Some((offset, byte)) => self.file.write_all_at(&[byte], offset),
-            None => Ok(()),
+    // Removes what was written since the last sync that answered Ok. The former byte comes first: a
+    // journal reads without its last record from then on, whatever becomes of what stands after it.
+    // The sync has failed already: that this fails too is nothing new.
+    fn undo(&self) {
+        if let Some((offset, byte)) = self.former.get() {
+            let _ = self.file.write_all_at(&[byte], offset);
         }
+        let _ = self.file.set_len(self.synced.get());
     }
 }
 
@@ -102,8 +117,7 @@ impl<F: OpenFile + FileExt + Drop> OpenFile for Written<F> {
 
     fn sync_all(&self) -> io::Result<()> {
         if let Err(why) = self.file.sync_all() {
-            // The sync has failed already: that this fails too is nothing new.
-            let _ = self.undo();
+            self.undo();
             return Err(why);
         }
         self.synced.set(self.length.get());
@@ -118,13 +132,16 @@ impl<F: OpenFile + FileExt + Drop> OpenFile for Written<F> {
 
 impl<F: OpenFile + FileExt + Drop> FileExt for Written<F> {
     fn read_at(&self, buf: &mut [u8], offset: u64) -> io::Result<usize> {
-        self.file.read_at(buf, offset)
+        let size = self.file.read_at(buf, offset)?;
+        self.use_to(offset.saturating_add(size as u64));
+        Ok(size)
     }
 
     fn write_at(&self, buf: &[u8], offset: u64) -> io::Result<usize> {
         self.prepare(offset, buf.len())?;
         let size = self.file.write_at(buf, offset)?;
         let end = offset.saturating_add(size as u64);
+        self.use_to(end);
         self.length.set(self.length.get().max(end));
         Ok(size)
     }

@@ -9,9 +9,11 @@ use std::os::unix::fs::{FileExt, PermissionsExt};
 use std::rt::Files;
 use std::test::Fail;
 
-// What is asked of an open file: bytes are written from an offset on, or it is synced.
+// What is asked of an open file: as many bytes as a tile has here, four, are read, bytes are written
+// from an offset on, or it is synced.
 #[derive(Clone, Copy)]
 enum Step {
+    Read(u64),
     Write(u64, &'static [u8]),
     Sync,
 }
@@ -70,8 +72,8 @@ const JOURNALS: [Case; 7] = [
             Call::Read(7, 1),
             Call::Write(7, 1),
             Call::Sync,
-            Call::Cut(14),
             Call::Write(7, 1),
+            Call::Cut(14),
         ],
         failing: Some(4),
         holds: b"records0later0",
@@ -132,48 +134,106 @@ const JOURNALS: [Case; 7] = [
     },
 ];
 
-const TILES: [Case; 3] = [
+const TILES: [Case; 6] = [
+    // A tile that was read is written over, and one more is added.
     Case {
         bytes: b"AAAABBBBCCCC",
         steps: &[
-            Step::Write(8, b"cccc"),
+            Step::Read(8),
+            Step::Write(4, b"bbbb"),
             Step::Write(12, b"dddd"),
             Step::Sync,
         ],
-        calls: &[Call::Write(8, 4), Call::Write(12, 4), Call::Sync],
+        calls: &[
+            Call::Read(8, 4),
+            Call::Write(4, 4),
+            Call::Write(12, 4),
+            Call::Sync,
+        ],
         failing: None,
-        holds: b"AAAABBBBccccdddd",
+        holds: b"AAAAbbbbCCCCdddd",
     },
-    // After a sync that fails the file ends before the lowest tile that was written.
+    // What a killed command left after all that was read is cut off before tiles are written there,
+    // and the file keeps its length.
+    Case {
+        bytes: b"AAAABBBBCCCCDDDDEEEE",
+        steps: &[
+            Step::Read(0),
+            Step::Write(4, b"bbbb"),
+            Step::Write(8, b"cccc"),
+            Step::Sync,
+        ],
+        calls: &[
+            Call::Read(0, 4),
+            Call::Cut(4),
+            Call::Cut(20),
+            Call::Write(4, 4),
+            Call::Write(8, 4),
+            Call::Sync,
+        ],
+        failing: None,
+        holds: b"AAAAbbbbcccc\0\0\0\0\0\0\0\0",
+    },
+    // What was written since isn't cut off.
     Case {
         bytes: b"AAAABBBBCCCC",
         steps: &[Step::Write(8, b"cccc"), Step::Write(4, b"bbbb"), Step::Sync],
         calls: &[
+            Call::Cut(8),
+            Call::Cut(12),
+            Call::Write(8, 4),
+            Call::Write(4, 4),
+            Call::Sync,
+        ],
+        failing: None,
+        holds: b"AAAAbbbbcccc",
+    },
+    // Where it can't be cut off nothing is written.
+    Case {
+        bytes: b"AAAABBBB",
+        steps: &[Step::Read(0), Step::Write(4, b"bbbb")],
+        calls: &[Call::Read(0, 4), Call::Cut(4)],
+        failing: Some(1),
+        holds: b"AAAABBBB",
+    },
+    // After a sync that fails the file ends before the lowest tile that was written.
+    Case {
+        bytes: b"AAAABBBBCCCC",
+        steps: &[
+            Step::Read(8),
+            Step::Write(8, b"cccc"),
+            Step::Write(4, b"bbbb"),
+            Step::Sync,
+        ],
+        calls: &[
+            Call::Read(8, 4),
             Call::Write(8, 4),
             Call::Write(4, 4),
             Call::Sync,
             Call::Cut(4),
         ],
-        failing: Some(2),
+        failing: Some(3),
         holds: b"AAAA",
     },
     // The tiles that were synced before stay.
     Case {
         bytes: b"AAAABBBBCCCC",
         steps: &[
+            Step::Read(8),
             Step::Write(4, b"bbbb"),
             Step::Sync,
             Step::Write(12, b"dddd"),
             Step::Sync,
         ],
         calls: &[
+            Call::Read(8, 4),
             Call::Write(4, 4),
             Call::Sync,
             Call::Write(12, 4),
             Call::Sync,
             Call::Cut(12),
         ],
-        failing: Some(3),
+        failing: Some(4),
         holds: b"AAAAbbbbCCCC",
     },
 ];
@@ -204,6 +264,7 @@ const TILES_OPENING: [Call; 8] = [
 fn take(file: &Opened<NotedFile>, steps: &[Step]) -> io::Result<()> {
     for step in steps {
         match *step {
+            Step::Read(offset) => file.read_exact_at(&mut [0; 4], offset)?,
             Step::Write(offset, bytes) => file.write_all_at(bytes, offset)?,
             Step::Sync => file.sync_all()?,
         }
