@@ -25,7 +25,7 @@ CHECKS = [
     (Scene, names.check_links), (Scene, names.check_linked_folders), (Scene, names.check_hard_links),
     (Scene, names.check_tiles_that_lead_back), (Scene, names.check_tiles_of_others),
     (Scene, names.check_no_journal), (Scene, names.check_long_names), (Folder, locks.check_modes),
-    (Scene, locks.check_others), (Scene, locks.check_owners_readers), (Scene, streams.check_streams), (Scene, streams.check_lines),
+    (Scene, locks.check_no_modes), (Scene, locks.check_others), (Scene, locks.check_owners_readers), (Scene, streams.check_streams), (Scene, streams.check_lines),
     (Scene, streams.check_readers), (Judged, streams.check_pipes), (Scene, streams.check_no_files),
     (Scene, order.check_order), (Scene, order.check_readers_write_nothing), (Folder, order.check_tail), (Folder, order.check_replaced),
     (Scene, faults.check_faults), (Scene, faults.check_no_sync), (Scene, faults.check_append), (Scene, faults.check_undoing),

@@ -127,24 +127,31 @@ def check_full(scene, _kills):
             yield from part(scene, disk)
 
 
+def read_only(scene, disk):
+    """What is wrong on a folder that holds the scene's files, and that can only be read by now."""
+    before = {path.name: path.read_bytes() for path in disk.iterdir()}
+    for command in COMMANDS:
+        words = [command.name, *(f"d/{word}" if word in before or word == "new" else word for word in command.words[1:])]
+        scene.restore()
+        wanted = scene.run(command.words) if command.only_asks else failed(command.name, words[1])
+        yield from unlike(command.name, scene.run(words), wanted)
+    yield from unlike("keygen", scene.run("keygen 5 4 d/secret")[0], 0)
+    yield from unlike("the files", {path.name: path.read_bytes() for path in disk.iterdir()} == before, True)
+
+
 def check_read_only(scene, _kills):
-    """On a disk that may only be read a command that only asks does its work, any other on a journal is status 5 and makes nothing, and
-    inputs are read"""
+    """On a disk that may only be read, as a whole or by its mount, a command that only asks does its work, also of files that nobody may
+    write; any other on a journal is status 5 and makes nothing, and inputs are read"""
     wants_mounts()
     disk = scene.path / "d"
     disk.mkdir()
-    for name in scene.kept:
-        shutil.copy(scene.path / name, disk / name)
-        scene.own(disk / name)
-    (disk / "j.tiles").unlink()
-    scene.own(disk)
-    before = {path.name: path.read_bytes() for path in disk.iterdir()}
-    with mounted(disk, "--bind", disk):
-        mount("-o", "remount,bind,ro", disk)
-        for command in COMMANDS:
-            words = [command.name, *(f"d/{word}" if word in before or word == "new" else word for word in command.words[1:])]
-            scene.restore()
-            wanted = scene.run(command.words) if command.only_asks else failed(command.name, words[1])
-            yield from unlike(command.name, scene.run(words), wanted)
-        yield from unlike("keygen", scene.run("keygen 5 4 d/secret")[0], 0)
-    yield from unlike("the files", {path.name: path.read_bytes() for path in disk.iterdir()} == before, True)
+    for options, remount in ((["-t", "tmpfs", "tmpfs"], "remount,ro"), (["--bind", disk], "remount,bind,ro")):
+        with mounted(disk, *options):
+            for name in scene.kept:
+                shutil.copy(scene.path / name, disk / name)
+                (disk / name).chmod(0o400)
+                scene.own(disk / name)
+            (disk / "j.tiles").unlink()
+            scene.own(disk)
+            mount("-o", remount, disk)
+            yield from (f"{remount}: {line}" for line in read_only(scene, disk))

@@ -2,13 +2,17 @@
 
 import fcntl
 import shutil
+import struct
 
-from .commands import ASKING, COMMANDS, COSIGNER, LOG, OPENING, SIGN, records
-from .folder import NEW_LOG, ended, failed, locked, unlike
+from .commands import ASKING, BEGINNING, COMMANDS, COSIGNER, LOG, OPENING, SIGN, records
+from .folder import NEW_LOG, LeftOut, ended, failed, locked, unlike
+from .tracing import new_trace, wants_trace
 
 ROUNDS = 60
 AT_ONCE = 4
 READERS = 10
+# How the system's answer begins (struct statx) of a plain file with which everyone may do anything.
+OPEN_TO_ALL = struct.pack("<IIQIIIH", 0x1fff, 4096, 0, 1, 0, 0, 0o100777).hex()
 
 
 def held(scene, file):
@@ -115,6 +119,18 @@ def check_modes(folder, _kills):
     yield from unlike("the new files", (folder.bytes("d/new"), folder.bytes("d/more")), (b"", b""))
     yield from unlike("the file of tiles", folder.bytes("d/j.tiles"), None)
     yield from unlike("issue", folder.run("issue d/j r"), (0, "issued 1\n", ""))
+
+
+def check_no_modes(scene, _kills):
+    """On a file system without modes, where every file is everyone's, no journal is begun, and no secret is written"""
+    wants_trace(scene)
+    shows = ["strace", "-qq", "-o", new_trace(scene), "-e", "trace=statx", "-e", f"inject=statx:poke_exit=@arg5={OPEN_TO_ALL}"]
+    if scene.run("member r", before=shows)[2].startswith("strace: "):
+        raise LeftOut("this strace changes no answer of the system")
+    for command in BEGINNING:
+        yield from unlike(command.name, scene.run(command.words, before=shows), failed(command.name, "new"))
+        yield from unlike(f"the file after {command.name}", scene.bytes("new"), b"")
+        (scene.path / "new").unlink()
 
 
 def check_others(scene, _kills):
