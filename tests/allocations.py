@@ -15,13 +15,11 @@ import os
 import shutil
 import subprocess
 import sys
-from pathlib import Path
+from functools import partial
 
-from cosignatures import KEY, ROOT, Folder
-from cosigned_log import DATES, FIRST
+from harness import DATES, KEY, ROOT, Folder, LeftOut, OfLines, program_of, run
 
-LOG, COSIGNER = "32473.1", "32473.2"
-NOW = str(FIRST)
+LOG, COSIGNER, NOW = "32473.1", "32473.2", "1767225600"
 REQUEST = f'{DATES}dns = ["{{}}.example", "*.b.example"]\ncommon_name = "b"\nkey = "{KEY}"\n'
 
 # The arguments of each command, over the files that `make_files` makes.
@@ -64,7 +62,7 @@ def make_log(folder):
     """A log of five entries with two landmarks, and what it writes."""
     folder.run("init-log", "log", LOG, "2", "32")
     for number in range(1, 5):
-        (folder.path / "request").write_text(REQUEST.format(f"n{number}"))
+        folder.write("request", REQUEST.format(f"n{number}"))
         folder.run("issue", "log", "request")
         if number in (1, 3):
             folder.run("landmark", "log")
@@ -91,7 +89,7 @@ def make_long_log(folder):
     """A log of entries with long keys."""
     folder.run("init-log", "long", LOG, "2", "32")
     for size in KEY_SIZES:
-        (folder.path / "request").write_text(REQUEST.format("long").replace(KEY, key_of(size)))
+        folder.write("request", REQUEST.format("long").replace(KEY, key_of(size)))
         folder.run("issue", "long", "request")
 
 
@@ -101,7 +99,7 @@ def make_files(folder):
     make_log(folder)
     for name, text in (("empty", b""), ("differing", bytes.fromhex("0001050000")), ("state", b"state 32473.1 0\n"), ("watch", b"b.example\n"), ("secret", bytes(range(48))), ("wrong", REQUEST.format("-a").encode()),
                        ("requests", "".join(f"[[request]]\n{REQUEST.format(name)}" for name in "ab").encode())):
-        (folder.path / name).write_bytes(text)
+        folder.write(name, text)
     for name in ("member", "cert", "journal"):
         shutil.copy(ROOT / f"examples/first.{name}", folder.path / f"first.{name}")
     folder.run("show", "first.cert")
@@ -110,10 +108,10 @@ def make_files(folder):
     folder.run("init-log", "switched", LOG, "2", "32")
     folder.run("switch", "switched")
     for journal in ("full", "tiled"):
-        subprocess.run([sys.executable, ROOT / "bench/log/make_journal.py", "256", folder.path / journal], check=True)
+        folder.long_log(256, journal)
         folder.run("tile" if journal == "tiled" else "checkpoint", journal)
     shutil.copy(folder.path / "tiled", folder.path / "lost")
-    (folder.path / "lost.tiles").write_bytes((folder.path / "tiled.tiles").read_bytes()[:100])
+    folder.write("lost.tiles", folder.read("tiled.tiles")[:100])
     for journal in ("early", "cosigner"):
         key = folder.run(*f"init-cosigner {journal} {COSIGNER} {LOG} 5 4 secret".split()).decode().strip()
     for journal in ("bottomless", "grown"):
@@ -126,14 +124,14 @@ def make_files(folder):
     make_mirrors(folder)
     folder.run(*"cert log 2 0 4 signatures".split(), into="cert")
     tables = folder.run("trust-landmarks", "list", "2", "entries").decode()
-    (folder.path / "trusting").write_text(f'[log]\nid = "{LOG}"\n{tables}')
+    folder.write("trusting", f'[log]\nid = "{LOG}"\n{tables}')
     rule = f'[[cosigner]]\nid = "{COSIGNER}"\nkey = "{key}"\n[[rule]]\ncosigners = ["{COSIGNER}"]\ncount = 1\n'
-    (folder.path / "store").write_text(f'[log]\nid = "{LOG}"\n{rule}')
+    folder.write("store", f'[log]\nid = "{LOG}"\n{rule}')
 
 
 def make_mirrors(folder):
     """Mirrors without entries, with three and with 256, and cosigners that hold what the second one has."""
-    (folder.path / "zeros").write_bytes(bytes(4 * 256))
+    folder.write("zeros", bytes(4 * 256))
     for mirror, entries in (("fresh", None), ("mirror", "few"), ("filled", "zeros")):
         folder.run("mirror-init", mirror, LOG)
         if entries:
@@ -198,25 +196,21 @@ class Refusals:
                 wrong.append(f"{words}: allocation {number}: {found[:3]}")
 
 
-def main():
+def check_refused(folder):
+    """each allocation of each command is refused in turn"""
     if not shutil.which("cc"):
-        print("left out: allocations: there is no C compiler (cc)")
-        return 0
-    program = Path(sys.argv[1] if len(sys.argv) > 1 else ROOT / "crates/mtc_main/out/mtc_main").resolve()
-    folder = Folder(program)
+        raise LeftOut("there is no C compiler (cc)")
     make_files(folder)
-    library = folder.path.parent / (folder.path.name + ".so")
-    source = ROOT / "tests/allocations/refuse.c"
-    subprocess.run(["cc", "-O1", "-shared", "-fPIC", "-fno-builtin", "-o", library, source], check=True)
-    refusals, wrong, count = Refusals(folder, library), [], 0
+    library = folder.path.with_suffix(".so")
+    subprocess.run(["cc", "-O1", "-shared", "-fPIC", "-fno-builtin", "-o", library, ROOT / "tests/allocations/refuse.c"], check=True)
+    refusals, count = Refusals(folder, library), 0
     for words in COMMANDS:
         number, faults = refusals.faults(words)
-        count, wrong = count + number, wrong + faults
-    shutil.rmtree(folder.path)
+        count += number
+        yield from faults
     library.unlink()
-    print(*wrong, f"{count} allocations of {len(COMMANDS)} commands were refused in turn", sep="\n")
-    return bool(wrong)
+    folder.notes.append(f"{count} allocations of {len(COMMANDS)} commands")
 
 
 if __name__ == "__main__":
-    sys.exit(main())
+    sys.exit(run([OfLines(partial(Folder, program_of(sys.argv[1:])), check_refused)]))

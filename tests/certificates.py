@@ -12,10 +12,11 @@ import shutil
 import subprocess
 import sys
 from itertools import islice
-from pathlib import Path
 
-from cosignatures import KEY, ROOT, Folder, items
-from cosigned_log import DATES, FIRST, LAST, LOG, CosignedLog, p256_keys, parts, path_of, proof_of
+from cosigned_log import FIRST, LAST, LOG, SIZE, CosignedLog, leaves_of, p256_keys
+from harness import DATES, KEY, Check, Folder, LeftOut, checks_of, program_of, run
+from hostile.changes import pieces
+from reference import proof
 
 ALGORITHM, ISSUER = "1.3.6.1.4.1.44363.47.0", "1.3.6.1.4.1.44363.47.1"
 NAMES = "X509v3 Subject Alternative Name"
@@ -29,27 +30,26 @@ class Wanted:
         self.serial, self.names, self.key, self.proof = serial, names, key, proof
 
 
-def small(program):
+def small():
     """The certificate of the one entry of a log, and what it is to say."""
-    folder = Folder(program)
-    folder.run("init-log", "j", LOG, "2", "64")
-    (folder.path / "r").write_text(f'{DATES}dns = ["a.example"]\nkey = "{KEY}"\n')
-    folder.run("issue", "j", "r")
-    (folder.path / "empty").write_bytes(b"")
-    cert = folder.run("cert", "j", "1", "0", "2", "empty")
-    path = path_of(1, items(folder.run("entries", "j", "2")))
-    shutil.rmtree(folder.path)
-    return cert, Wanted(1, ["a.example"], base64.b64decode(KEY), proof_of(2, path, b""))
+    folder = Folder(PROGRAM)
+    folder.run("init-log", "j", LOG, 2, 64)
+    folder.write("r", f'{DATES}dns = ["a.example"]\nkey = "{KEY}"\n')
+    folder.run("issue j r")
+    folder.write("empty", b"")
+    cert, leaves = folder.run("cert j 1 0 2 empty"), leaves_of(folder.run("entries j 2"))
+    folder.close()
+    return cert, Wanted(1, ["a.example"], base64.b64decode(KEY), proof.written(0, 2, leaves.path(1, 0, 2), b""))
 
 
-def large(program, size=1024, index=1000):
+def large(index=1000):
     """A certificate with signatures of three cosigners, and what it is to say."""
-    log = CosignedLog(program, size)
-    cert = log.cert(index, b"".join(log.signatures))
+    log = CosignedLog(PROGRAM, SIZE)
+    signatures = b"".join(log.signatures)
+    cert = log.cert(index, signatures)
     [key] = islice(p256_keys(), index - 1, index)
-    proof = proof_of(size, path_of(index, log.entries), b"".join(log.signatures))
-    shutil.rmtree(log.path)
-    return cert, Wanted(index, [f"n{index}.example", f"www.n{index}.example"], key, proof)
+    log.close()
+    return cert, Wanted(index, [f"n{index}.example", f"www.n{index}.example"], key, log.proof(index, signatures))
 
 
 def by_cryptography(cert, wanted):
@@ -62,7 +62,7 @@ def by_cryptography(cert, wanted):
     spki = Encoding.DER, PublicFormat.SubjectPublicKeyInfo
     hosts = names.value.get_values_for_type(x509.DNSName)
     yield "bytes", read.public_bytes(Encoding.DER), cert
-    yield "signed part", read.tbs_certificate_bytes, parts(cert)[0]
+    yield "signed part", read.tbs_certificate_bytes, pieces(cert)[0]
     yield "version", read.version, x509.Version.v3
     yield "serial", read.serial_number, wanted.serial
     yield "issuer", [(one.oid.dotted_string, one.value) for one in read.issuer], [(ISSUER, LOG)]
@@ -99,24 +99,32 @@ def by_openssl(cert, wanted):
     yield "signature", bytes.fromhex(signature.replace(":", "")), wanted.proof
 
 
-def main():
-    try:
-        import cryptography
-    except ImportError:
-        cryptography = None
-    if not (cryptography and shutil.which("openssl")):
-        print("left out: certificates: OpenSSL or Python's cryptography isn't here")
-        return 0
-    program = Path(sys.argv[1] if len(sys.argv) > 1 else ROOT / "crates/mtc_main/out/mtc_main")
-    wrong = []
-    for cert, wanted in (small(program.resolve()), large(program.resolve())):
+class Certificates(Check):
+    @classmethod
+    def setUpClass(cls):
+        try:
+            import cryptography
+        except ImportError:
+            cryptography = None
+        if not (cryptography and shutil.which("openssl")):
+            raise LeftOut("OpenSSL or Python's cryptography isn't here")
+
+    def read_whole(self, cert, wanted):
+        self.notes = [f"{len(cert)} bytes"]
         for reader in (by_cryptography, by_openssl):
-            wrong += [f"wrong: {reader.__name__}: {name}: {found} in place of {asked}"
-                      for name, found, asked in reader(cert, wanted) if found != asked]
-        print(f"a certificate of {len(cert)} bytes is read")
-    print(*wrong, sep="\n", end="\n" if wrong else "")
-    return bool(wrong)
+            for name, found, asked in reader(cert, wanted):
+                with self.subTest(f"{reader.__name__}: {name}"):
+                    self.assertEqual(found, asked)
+
+    def test_small(self):
+        """a certificate without signatures is read"""
+        self.read_whole(*small())
+
+    def test_large(self):
+        """one with three cosignatures is read"""
+        self.read_whole(*large())
 
 
 if __name__ == "__main__":
-    sys.exit(main())
+    PROGRAM = program_of(sys.argv[1:])
+    sys.exit(run(checks_of(Certificates)))

@@ -1,12 +1,11 @@
 #!/usr/bin/env python3
-"""Has cosigners of all widths, with keys of one level and of two, sign subtrees of a log, and verifies their keys and signatures
-with BouncyCastle.
+"""Has cosigners of all widths, with keys of one level and of two, sign subtrees of a log, and compares their keys and signatures with
+those that tests/reference makes of the same secrets; BouncyCastle verifies them too.
 
 The signed bytes are made here from the log's entries. The keys are those of the cosigners' exports, which have to be those
 that `init-cosigner` and `init-cosigner2` printed, and in which the secrets may not stand. A key of two levels gets each lower
-tree by `child` as soon as `cosign` wants it, and all signatures of one lower tree have to begin with the same signature of it.
-Needs java and BouncyCastle's jar (BCPROV names it, or /usr/share/java has it); where they aren't there it says that this is
-left out, and ends with status 0.
+tree by `child` as soon as `cosign` wants it. A key of height 10 signs by its last one-time key too, after the records of all others.
+BouncyCastle needs java and its jar (BCPROV names it, or /usr/share/java has it); where they aren't there, that part is left out.
 Usage: tests/cosignatures.py [PROGRAM]
 """
 
@@ -16,183 +15,128 @@ import os
 import shutil
 import subprocess
 import sys
-import tempfile
+from functools import cache
 from pathlib import Path
 
-ROOT = Path(__file__).resolve().parent.parent
+from harness import DATES, KEY, ROOT, Check, Folder, checks_of, expect, program_of, run
+from reference import cosigner, entry, hss, journal, merkle, proof
+from reference.keys import Key
+from reference.log import short
+from reference.proof import vector
+
 JAR = Path(os.environ.get("BCPROV", "/usr/share/java/bcprov.jar"))
 LOG, LOG_ID = "32473.1", bytes.fromhex("81fd5901")
 COSIGNER, COSIGNER_ID = "32473.2", bytes.fromhex("81fd5902")
-KEY = "MCowBQYDK2VwAyEAAAAAAAAAAAAAAAAAAAAAAAAAAAAAAAAAAAAAAAAAAAA="
 SIZE = 9
 SUBTREES = [(0, 9), (0, 8), (4, 8), (8, 9), (2, 4), (7, 8)]
 # The heights of a key's trees, its width, and how many signatures it makes.
-KEYS = [((5,), 1, 6), ((5,), 2, 6), ((5,), 4, 32), ((5,), 8, 6), ((10,), 4, 2),
+KEYS = [((5,), 1, 6), ((5,), 2, 6), ((5,), 4, 32), ((5,), 8, 6), ((10,), 1, 0), ((10,), 2, 0), ((10,), 4, 2), ((10,), 8, 0),
         ((5, 5), 1, 1), ((5, 5), 2, 1), ((5, 5), 4, 34), ((5, 5), 8, 2), ((10, 5), 4, 2), ((5, 10), 4, 2)]
-# The hash chains of a one-time signature, by its width (RFC 8554, section 4.1).
-CHAINS = {1: 265, 2: 133, 4: 67, 8: 34}
-
-
-class Folder:
-    """A folder in which the program runs."""
-
-    def __init__(self, program):
-        self.path = Path(tempfile.mkdtemp())
-        self.program = program
-
-    def run(self, *words, into=None):
-        """What a command writes to standard output; it has to end with status 0."""
-        ended = subprocess.run([self.program, *words], cwd=self.path, capture_output=True)
-        if ended.returncode != 0:
-            sys.exit(f"{' '.join(words)}: status {ended.returncode} {ended.stderr.decode()}")
-        if into:
-            (self.path / into).write_bytes(ended.stdout)
-        return ended.stdout
-
-    def refusal(self, *words):
-        ended = subprocess.run([self.program, *words], cwd=self.path, capture_output=True)
-        return ended.returncode, ended.stdout, ended.stderr.decode()
-
-
-def items(text):
-    """The entries of a log, from what `entries` writes."""
-    fields, place = [], 0
-    while place < len(text):
-        length = int.from_bytes(text[place:place + 2], "big")
-        fields.append(text[place + 2:place + 2 + length])
-        place += 2 + length
-    return fields[0::2]
-
-
-def tree_hash(leaves):
-    """The Merkle tree hash (RFC 9162, section 2.1.1)."""
-    if len(leaves) == 1:
-        return hashlib.sha256(b"\0" + leaves[0]).digest()
-    split = 1 << (len(leaves) - 1).bit_length() - 1
-    return hashlib.sha256(b"\1" + tree_hash(leaves[:split]) + tree_hash(leaves[split:])).digest()
-
-
-def signed_bytes(entries, start, end):
-    """What a cosigner signs for a subtree."""
-    ids = bytes([len(COSIGNER_ID)]) + COSIGNER_ID + bytes([len(LOG_ID)]) + LOG_ID
-    span = start.to_bytes(8, "big") + end.to_bytes(8, "big")
-    return b"mtc-subtree/v1\n\0" + ids + span + tree_hash(entries[start:end])
-
-
-def signature_in(text):
-    """The signature in what `cosign` writes: after the cosigner's id, and a length of two bytes."""
-    prefix = bytes([len(COSIGNER_ID)]) + COSIGNER_ID
-    length = int.from_bytes(text[len(prefix):len(prefix) + 2], "big")
-    signature = text[len(prefix) + 2:]
-    if not text.startswith(prefix) or len(signature) != length:
-        sys.exit(f"no signature of {COSIGNER}: {text[:16].hex()}")
-    return signature
+# The typecodes of heights and widths (RFC 8554, sections 4.1 and 5.1).
+HEIGHTS = {height: code for code, height in hss.LMS.items()}
+WIDTHS = {width: code for code, (width, _, _) in hss.LMOTS.items()}
 
 
 def new_log(folder):
-    """A log, and its entries."""
+    """A log, and the list of its entries."""
     folder.run("init-log", "j", LOG, "2", "64")
-    dates = 'not_before = "2026-01-01T00:00:00Z"\nnot_after = "2026-01-08T00:00:00Z"\n'
     for number in range(1, SIZE):
-        (folder.path / "r").write_text(f'{dates}dns = ["{number}.example"]\nkey = "{KEY}"\n')
-        folder.run("issue", "j", "r")
-    folder.run("consist", "j", "0", str(SIZE), into="a")
-    return items(folder.run("entries", "j", str(SIZE)))
+        folder.write("r", f'{DATES}dns = ["{number}.example"]\nkey = "{KEY}"\n')
+        folder.run("issue j r")
+    folder.run("consist", "j", 0, SIZE, into="a")
+    for start, end in SUBTREES:
+        folder.run("subtree", "j", start, end, SIZE, into=f"{start}-{end}")
+    return merkle.List([text for text, _ in entry.items(folder.run("entries", "j", SIZE))])
 
 
-def exported_key(export, printed, seeds):
-    """The public key in an export, after the two ids and its length."""
-    prefix = bytes([len(COSIGNER_ID)]) + COSIGNER_ID + bytes([len(LOG_ID)]) + LOG_ID + b"\0\74"
-    key = export[len(prefix):len(prefix) + 60]
-    if not export.startswith(prefix) or key != printed:
-        sys.exit(f"another key in an export: {export[:80].hex()}")
-    if any(seed[place:place + 8] in export for seed in seeds for place in range(25)):
-        sys.exit("a secret in an export")
-    return key
+def check_export(folder, name, key, secret):
+    """An export has the key, and nothing that no one else may have of it and of its lower trees. The first 16 bytes of a secret are
+    its identifier, which is public."""
+    text = folder.run("export", name)
+    expect(f"the key in the export of {name}", cosigner.export(text).key, key.public)
+    seeds = [secret[16:], *(tree.seed for tree in key.lower.values())]
+    expect(f"a secret in the export of {name}", [seed for seed in seeds for place in range(25) if seed[place:place + 8] in text], [])
 
 
-def seeds_of(secret, children):
-    """What no one else may have of a key and of its lower trees. The first 16 bytes of the secret are its identifier, which is
-    public."""
-    identifier, seed = secret[:16], secret[16:]
-    starts = [identifier + number.to_bytes(4, "big") + b"\xff\xff\xff" + seed for number in range(children)]
-    return [seed, *(hashlib.sha256(start).digest() for start in starts)]
-
-
-def new_key(folder, journal, heights, width):
-    """The key that is printed of a new cosigner, with a level for each of these heights."""
-    begin = ["init-cosigner", "init-cosigner2"][len(heights) - 1]
-    return base64.b64decode(folder.run(begin, journal, COSIGNER, LOG, *map(str, heights), str(width), "secret"))
-
-
-def expect(name, found, wanted):
-    if found != wanted:
-        sys.exit(f"{name}: {found} in place of {wanted}")
-
-
-def next_signature(folder, journal, number, tree):
-    """The signature of this number. Where lower trees sign so many messages each, the next one is made when `cosign` wants it."""
+def next_signature(folder, name, number, tree, request):
+    """What `cosign` writes by the key of this number. Where lower trees sign so many messages each, the next one is made when it wants
+    it."""
     if tree and number % tree == 0:
-        expect("cosign", folder.refusal("cosign", journal, "t"), (4, b"", "mtc: cosign: NeedsChild\n"))
-        expect("child", folder.run("child", journal), b"child %d\n" % (number // tree))
-        expect("child again", folder.refusal("child", journal), (4, b"", f"mtc: child: ChildLeft {tree}\n"))
-    return signature_in(folder.run("cosign", journal, "t"))
+        expect("cosign", folder.ended("cosign", name, request), (4, b"", "mtc: cosign: NeedsChild\n"))
+        expect("child", folder.run("child", name), b"child %d\n" % (number // tree))
+        expect("child again", folder.ended("child", name), (4, b"", f"mtc: child: ChildLeft {tree}\n"))
+    return folder.run("cosign", name, request)
 
 
-def beginnings(signatures, width, low):
-    """What the signatures begin with up to the last level's, of this width and height: the levels, and the upper tree's
-    signature of the lower tree's key."""
-    last = 4 + 4 + 32 * (1 + CHAINS[width]) + 4 + 32 * low
-    return [signature[:-last] for signature in signatures]
+def all_but_one(folder, name, leaves):
+    """Adds the records of a signature by each of the one-time keys but the last and those that have signed."""
+    start, end = SUBTREES[0]
+    bodies = list(journal.bodies(folder.read(name)))
+    step = cosigner.Sign(0, start, end, leaves.hash(start, end), leaves.proof(start, end, 0, SIZE))
+    bodies += [cosigner.sign_body(step._replace(number=number)) for number in range(len(bodies) - 2, 1023)]
+    folder.write(name, journal.written(bodies))
 
 
-def cosigned(folder, entries, heights, width, count):
+def cosigned(folder, leaves, heights, width, count):
     """(key, signed bytes, signature) of so many signatures of a new cosigner."""
-    journal = ".".join(map(str, ("s", *heights, width)))
-    secret = hashlib.sha384(journal.encode()).digest()
-    (folder.path / "secret").write_bytes(secret)
-    key = new_key(folder, journal, heights, width)
-    folder.run("advance", journal, "a")
-    signed, tree = [], 1 << heights[1] if len(heights) == 2 else None
-    for number in range(count):
+    name = ".".join(map(str, ("s", *heights, width)))
+    secret = hashlib.sha384(name.encode()).digest()
+    key = Key(secret, [HEIGHTS[height] for height in heights], WIDTHS[width])
+    folder.write("secret", secret)
+    printed = folder.run(["init-cosigner", "init-cosigner2"][len(heights) - 1], name, COSIGNER, LOG, *heights, width, "secret")
+    expect(f"the key of {name}", base64.b64decode(printed), key.public)
+    folder.run("advance", name, "a")
+    tree, last = 1 << heights[1] if len(heights) == 2 else None, [1023] if heights == (10,) else []
+    for number in [*range(count), *last]:
+        if number in last:
+            all_but_one(folder, name, leaves)
         start, end = SUBTREES[number % len(SUBTREES)]
-        folder.run("subtree", "j", str(start), str(end), str(SIZE), into="t")
-        signed.append((signed_bytes(entries, start, end), next_signature(folder, journal, number, tree)))
-    trees = -(-count // tree) if tree else 0
-    begun = beginnings([signature for _, signature in signed], width, heights[-1])
-    expect(f"the beginnings of {journal}", len(set(begun)), max(trees, 1))
-    expect(f"their order of {journal}", begun, sorted(begun, key=begun.index))
-    key = exported_key(folder.run("export", journal), key, seeds_of(secret, trees))
-    return [(key, message, signature) for message, signature in signed]
+        message = proof.signed_bytes(COSIGNER_ID, LOG_ID, start, end, leaves.hash(start, end))
+        signature = key.signature(number, message)
+        found = next_signature(folder, name, number, tree, f"{start}-{end}")
+        expect(f"signature {number} of {name}", found, short(COSIGNER_ID) + vector(signature))
+        expect(f"what is said of signature {number} of {name}", hss.hss_answer(key.public, message, signature), "Ok")
+        yield key.public, message, signature
+    check_export(folder, name, key, secret)
+
+
+@cache
+def signatures():
+    """The cases of all keys, and the folder with their cosigners."""
+    folder = Folder(PROGRAM)
+    leaves = new_log(folder)
+    return folder, [case for heights, width, count in KEYS for case in cosigned(folder, leaves, heights, width, count)]
 
 
 def verified(folder, cases):
     """Which of these BouncyCastle verifies."""
-    lines = folder.path / "cases"
-    lines.write_text("".join(" ".join(field.hex() for field in case) + "\n" for case in cases))
+    folder.write("cases", "".join(" ".join(field.hex() for field in case) + "\n" for case in cases))
     subprocess.run(["javac", "-d", folder.path, "-cp", JAR, ROOT / "tests/cosignatures/Verify.java"], check=True)
-    words = ["java", "-cp", f"{JAR}:{folder.path}", "Verify", lines]
+    words = ["java", "-cp", f"{JAR}:{folder.path}", "Verify", folder.path / "cases"]
     return subprocess.run(words, check=True, capture_output=True, text=True).stdout.split()
 
 
-def main():
-    if not (shutil.which("javac") and shutil.which("java") and JAR.exists()):
-        print("left out: cosignatures: javac, java or BouncyCastle's jar isn't here")
-        return
-    program = Path(sys.argv[1] if len(sys.argv) > 1 else ROOT / "crates/mtc_main/out/mtc_main").resolve()
-    folder = Folder(program)
-    entries = new_log(folder)
-    cases = []
-    for heights, width, count in KEYS:
-        cases += cosigned(folder, entries, heights, width, count)
-    expect("the 33rd signature", folder.refusal("cosign", "s.5.4", "t"), (4, b"", "mtc: cosign: Exhausted\n"))
-    expect("a lower tree of a key of one level", folder.refusal("child", "s.5.4"), (4, b"", "mtc: child: OneLevel\n"))
-    changed = [(key, message[:-1] + bytes([message[-1] ^ 1]), signature) for key, message, signature in cases]
-    found, refused = verified(folder, cases), verified(folder, changed)
-    shutil.rmtree(folder.path)
-    print(f"{found.count('good')} of {len(cases)} signatures verify, and {refused.count('good')} over other bytes")
-    sys.exit(found != ["good"] * len(cases) or refused != ["bad"] * len(cases))
+class Cosignatures(Check):
+    def test_signatures(self):
+        """keys and signatures of each width and of two levels are those that follow from the secrets"""
+        folder, cases = signatures()
+        self.notes = [f"{len(cases)} signatures"]
+        self.assertEqual(folder.ended("cosign s.5.4 0-9"), (4, b"", "mtc: cosign: Exhausted\n"))
+        self.assertEqual(folder.ended("cosign s.10.4 0-9"), (4, b"", "mtc: cosign: Exhausted\n"))
+        self.assertEqual(folder.ended("child s.5.4"), (4, b"", "mtc: child: OneLevel\n"))
+
+    def test_bouncycastle(self):
+        """BouncyCastle verifies each, and none over other bytes"""
+        if not (shutil.which("javac") and shutil.which("java") and JAR.exists()):
+            self.skipTest("javac, java or BouncyCastle's jar isn't here")
+        folder, cases = signatures()
+        changed = [(key, message[:-1] + bytes([message[-1] ^ 1]), signature) for key, message, signature in cases]
+        self.assertEqual(verified(folder, cases), ["good"] * len(cases))
+        self.assertEqual(verified(folder, changed), ["bad"] * len(cases))
 
 
 if __name__ == "__main__":
-    main()
+    PROGRAM = program_of(sys.argv[1:])
+    status = run(checks_of(Cosignatures))
+    signatures()[0].close()
+    sys.exit(status)

@@ -5,10 +5,9 @@ and what is then in a journal. The keys of cosigners have one level or two, and 
 
 Where an element of a certificate is changed, dropped, doubled or moved, the lengths around it are fitted: so the change
 is met where it stands, and not as a length that doesn't fit. Else one byte is changed at a time, each of a file to each of
-sixteen values; with MTC_ALL=1 in the environment to each of all. tests/certificate_table.py and tests/run_table.py have
-single bytes too, over memory. The readers are written from docs/FORMATS.md, docs/COMMANDS.md and the standards, and keys
-and signatures are made from RFC 8554. A line for each kind of change says how many files have which status, and below it
-is what is wrong; a kind of which nothing is accepted is wrong too. It needs the built program, and takes a minute.
+sixteen values; with MTC_ALL=1 in the environment to each of all. The readers are written from docs/FORMATS.md, docs/COMMANDS.md and
+the standards, and keys and signatures are made from RFC 8554. A line for each kind of change says how many files have which status,
+and below it is what is wrong; a kind of which nothing is accepted is wrong too. It needs the built program, and takes a minute.
 Usage: tests/hostile_files.py [PROGRAM]
 """
 

@@ -9,15 +9,15 @@ Usage: tests/killed_cosigner.py [KILLS]    100 if nothing is said; with less tha
 """
 
 import random
-import shutil
-import subprocess
 import sys
 import time
+from functools import partial
 
 from files.commands import COSIGNER, LOG, numbers_of
-from files.folder import ROOT, Folder, unlike
+from files.folder import Folder, unlike
 from files.kills import killed, next_span
 from files.locks import number_in
+from harness import OfLines, program_of, run
 
 # A key of height 5 has 32 one-time keys, as each lower tree has, and so many kills each cosigner of the test is given.
 KILLS = 30
@@ -59,15 +59,15 @@ def key_in(signature, levels):
     return number_in(signature[:head] + signature[head + (levels - 1) * UPPER:])
 
 
-def check(folder, kills, levels):
-    """What is wrong, and how many signatures went out, and how many records are there of which nothing did."""
-    began, sent = time.monotonic(), 0
-    folder.new_cosigner(f"first{levels}", levels)
-    folder.said(["cosign", f"first{levels}", "subtree"])
+def check_killed(folder, kills, levels):
+    """`cosign` is killed at random times"""
+    began, sent, unsaid = time.monotonic(), 0, 0
+    folder.new_cosigner("first", levels)
+    folder.said(["cosign", "first", "subtree"])
     span = time.monotonic() - began
     for kill in range(kills):
         if kill % KILLS == 0:
-            journal, before = f"c{levels}.{kill}", []
+            journal, before = f"c{kill}", []
             folder.new_cosigner(journal, levels)
         out = killed(folder, ["cosign", journal, "subtree"], random.uniform(0, span)).encode("latin-1")
         numbers = folder.numbers(journal)
@@ -77,24 +77,16 @@ def check(folder, kills, levels):
             yield from unlike(f"kill {kill}: the records", len(numbers), len(before) + 1)
             yield from unlike(f"kill {kill}: the key", key_in(out, levels) in (None, len(before)), True)
         else:
-            folder.unsaid += len(numbers) - len(before)
+            unsaid += len(numbers) - len(before)
             yield from unlike(f"kill {kill}: a record at most", len(numbers) - len(before) in (0, 1), True)
         span, before = next_span(span, bool(out)), numbers
     yield from unlike(f"a byte went out by a key of {levels} levels", sent > 0, True)
-    folder.out += sent
+    folder.notes.append(f"by a key of {levels} levels {kills} times: of {sent} a byte went out, the records of {unsaid} others are there")
 
 
 def main(words):
-    if subprocess.run([ROOT / "mtc", "member", ROOT / "examples/first.member"], stdout=subprocess.DEVNULL).returncode:
-        return 70
-    folder = Cosigned(ROOT / "crates/mtc_main/out/mtc_main")
-    folder.out = folder.unsaid = 0
-    kills = int(words[0]) if words else 100
-    wrong = [*check(folder, kills - kills // 2, 1), *check(folder, kills // 2, 2)]
-    shutil.rmtree(folder.path)
-    print(f"{'wrong' if wrong else 'ok'}: `cosign` was killed {kills} times: of {folder.out} a byte went out, and the records of"
-          f" {folder.unsaid} others are there", *wrong, sep="\n    ")
-    return bool(wrong)
+    kills, make = int(words[0]) if words else 100, partial(Cosigned, program_of([]))
+    return run([OfLines(make, check_killed, kills - kills // 2, 1), OfLines(make, check_killed, kills // 2, 2)])
 
 
 if __name__ == "__main__":

@@ -1,29 +1,28 @@
 #!/usr/bin/env python3
 """Sets landmarks in a log, and compares its lists and its certificates without signatures, what relying parties say of
-them, and what audits say, with what is made again from the entries.
+them, and what audits say, with what is made again from the entries. So are the path of each entry in each subtree of the log, and the
+proof of each subtree in each of its beginnings.
 
 Over real files.
 Usage: tests/landmarked_log.py [PROGRAM]
 """
 
-import hashlib
-import shutil
-import subprocess
+import base64
+import re
 import sys
-from pathlib import Path
 
-from cosignatures import ROOT, Folder, items, tree_hash
-from cosigned_log import COSIGNERS, LOG, CosignedLog, element, p256_keys, parts, path_of, vector
+from cosigned_log import COSIGNERS, LOG, CosignedLog, leaves_of, p256_keys
+from harness import Check, Folder, checks_of, program_of, run
+from hostile.changes import pieces
+from reference import certificate, proof
+from reference.der import BIT_STRING, encoded
+from reference.merkle import NO_ENTRIES, is_subtree
 
 # The sizes at the landmarks, how many of these are active, and the size of the log.
 SIZES, ACTIVE, SIZE = [1, 5, 9, 22, 40], 3, 43
 # The index of the certificate that is audited.
 AUDITED = 25
-
-
-def hashes_of(entries):
-    """The tree hash of a list, which may be empty, in hexadecimal."""
-    return (tree_hash(entries) if entries else hashlib.sha256().digest()).hex()
+LOG_ID = bytes.fromhex("0481fd5901")
 
 
 def cover(start, end):
@@ -39,8 +38,7 @@ def cover(start, end):
 def active_subtrees():
     """The subtrees of the active landmarks, from the oldest."""
     sizes = [0, *SIZES]
-    return [span for number in range(len(SIZES) - ACTIVE, len(SIZES))
-            for span in cover(sizes[number], sizes[number + 1])]
+    return [span for number in range(len(SIZES) - ACTIVE, len(SIZES)) for span in cover(sizes[number], sizes[number + 1])]
 
 
 def covering(index):
@@ -48,128 +46,125 @@ def covering(index):
     for number, size in enumerate(SIZES):
         if index < size:
             spans = cover([0, *SIZES][number], size)
-            return next((span for span in spans if span[0] <= index < span[1]
-                         and number >= len(SIZES) - ACTIVE), None)
+            return next((span for span in spans if span[0] <= index < span[1] and number >= len(SIZES) - ACTIVE), None)
     return None
 
 
+def subtrees(size):
+    """All subtrees of the first entries, by their starts and ends."""
+    return [(start, end) for start in range(size) for end in range(start + 1, size + 1) if is_subtree(start, end)]
+
+
 class LandmarkedLog(CosignedLog):
-    """A log with landmarks, and one cosigner of it."""
+    """A log with landmarks."""
 
     def __init__(self, program):
         Folder.__init__(self, program)
-        self.size, self.wrong, reported = SIZE, [], []
-        self.run("init-log", "j", LOG, str(ACTIVE), str(SIZE))
+        self.size, self.reported = SIZE, []
+        self.run("init-log", "j", LOG, ACTIVE, SIZE)
         keys = p256_keys()
         for size in range(1, SIZE + 1):
             if size > 1:
                 self.issue(size - 1, next(keys))
             if size in SIZES:
-                reported.append(self.run("landmark", "j").decode())
-        self.text = self.run("entries", "j", str(SIZE), into="entries")
-        self.entries = items(self.text)
-        wanted = [f"landmark {number} {size}\n" for number, size in enumerate(SIZES, 1)]
-        self.expect("landmark", reported, wanted)
-        self.run("landmarks", "j", into="list")
-
-    def hash(self, span):
-        return tree_hash(self.entries[slice(*span)])
+                self.reported.append(self.run("landmark j").decode())
+        self.text = self.run("entries", "j", SIZE, into="entries")
+        self.leaves = leaves_of(self.text)
+        self.run("landmarks j", into="list")
 
     def tables(self, changed=None):
         """The tables of a store for the active landmarks; the hash of one may have another last digit."""
         text = ""
         for span in active_subtrees():
-            digits = self.hash(span).hex()
+            digits = self.leaves.hash(*span).hex()
             digits = digits[:-1] + "10"[digits[-1] == "1"] if span == changed else digits
             text += f'[[subtree]]\nstart = {span[0]}\nend = {span[1]}\nhash = "{digits}"\n\n'
         return text
 
     def trusting(self, changed=None):
-        return f'[log]\nid = "{LOG}"\n{self.tables(changed)}'.encode()
+        return f'[log]\nid = "{LOG}"\n{self.tables(changed)}'
+
+    def part(self, text, start, end):
+        """The tree hash of a part of an entries file, which may be empty, in hexadecimal."""
+        leaves, end = leaves_of(text), min(end, len(leaves_of(text).rows[0]))
+        return (leaves.hash(start, end) if start < end else NO_ENTRIES).hex()
 
 
-def check_lists(log):
-    """The list of the active landmarks, and the tables that are made of it."""
-    falling = [*reversed(SIZES)][:ACTIVE + 1]
-    wanted = f"{len(SIZES)} {ACTIVE}\n" + "".join(f"{size}\n" for size in falling)
-    log.expect("landmarks", (log.path / "list").read_text(), wanted)
-    reported = log.run("trust-landmarks", "list", str(ACTIVE), "entries").decode()
-    log.expect("trust-landmarks", reported, log.tables())
-    found = log.refusal("trust-landmarks", "list", str(ACTIVE - 1), "entries")
-    log.expect("fewer active", found, (2, b"", "mtc: trust-landmarks: list: TooManyActive\n"))
-    log.run("entries", "j", str(SIZES[-1] - 1), into="few")
-    found = log.refusal("trust-landmarks", "list", str(ACTIVE), "few")
-    log.expect("fewer entries", found, (2, b"", "mtc: trust-landmarks: list: BeyondLog\n"))
+class Landmarked(Check):
+    @classmethod
+    def setUpClass(cls):
+        cls.log = LandmarkedLog(PROGRAM)
+        cls.addClassCleanup(cls.log.close)
 
+    def test_lists(self):
+        """the list of the active landmarks, and the tables that are made of it"""
+        log = self.log
+        self.assertEqual(log.reported, [f"landmark {number} {size}\n" for number, size in enumerate(SIZES, 1)])
+        wanted = f"{len(SIZES)} {ACTIVE}\n" + "".join(f"{size}\n" for size in [*reversed(SIZES)][:ACTIVE + 1])
+        self.assertEqual(log.read("list").decode(), wanted)
+        self.assertEqual(log.run("trust-landmarks", "list", ACTIVE, "entries").decode(), log.tables())
+        found = log.ended("trust-landmarks", "list", ACTIVE - 1, "entries")
+        self.assertEqual(found, (2, b"", "mtc: trust-landmarks: list: TooManyActive\n"))
+        log.run("entries", "j", SIZES[-1] - 1, into="few")
+        found = log.ended("trust-landmarks", "list", ACTIVE, "few")
+        self.assertEqual(found, (2, b"", "mtc: trust-landmarks: list: BeyondLog\n"))
 
-def check_certificates(log):
-    """Each certificate without signatures, by a store that trusts the landmarks."""
-    for index in range(1, SIZE):
-        span = covering(index)
-        if span is None:
-            found = log.refusal("light-cert", "j", str(index))
-            log.expect(f"light-cert {index}", found, (4, b"", "mtc: light-cert: NotCovered\n"))
-            continue
-        cert = log.run("light-cert", "j", str(index))
-        bounds = b"".join(bound.to_bytes(8, "big") for bound in span)
-        path = path_of(index - span[0], log.entries[slice(*span)])
-        proof = bounds + vector(b"".join(path)) + vector(b"")
-        log.expect(f"the proof of {index}", parts(cert)[2], element(0x03, b"\0" + proof))
-        log.expect(f"verify {index}", log.judged(cert, log.trusting()), f"0 accepted {index}")
-        log.expect(f"another hash for {index}", log.judged(cert, log.trusting(span)),
-                   "3 refused LandmarkDiffers")
+    def test_certificates(self):
+        """each certificate without signatures, by a store that trusts the landmarks"""
+        for index in range(1, SIZE):
+            span = covering(index)
+            if span is None:
+                found = self.log.ended("light-cert", "j", index)
+                self.assertEqual(found, (4, b"", "mtc: light-cert: NotCovered\n"), index)
+                continue
+            cert = self.log.run("light-cert", "j", index)
+            wanted = proof.written(*span, self.log.leaves.path(index, *span), b"")
+            self.assertEqual(pieces(cert)[2], encoded(BIT_STRING, b"\0" + wanted), index)
+            self.assertEqual(self.log.judged(cert, self.log.trusting()), f"0 accepted {index}")
+            self.assertEqual(self.log.judged(cert, self.log.trusting(span)), "3 refused LandmarkDiffers", index)
 
+    def test_subtrees(self):
+        """the hash of each subtree, its proof in each beginning of the log, and the path in it of each entry"""
+        leaves, count = self.log.leaves, 0
+        self.log.write("none", b"")
+        for start, end in subtrees(SIZE):
+            for size in range(end, SIZE + 1):
+                wanted = LOG_ID + start.to_bytes(8, "big") + end.to_bytes(8, "big") + leaves.hash(start, end)
+                hashes = b"".join(leaves.proof(start, end, 0, size))
+                found = self.log.run("subtree", "j", start, end, size)
+                self.assertEqual(found, wanted + proof.vector(hashes), (start, end, size))
+                count += 1
+            first = max(start, 1)
+            text = self.log.run("certs", "j", first, end, start, end, "none").decode() if first < end else ""
+            found = re.findall("-----BEGIN CERTIFICATE-----\n(.*?)-----END", text, re.S)
+            self.assertEqual([certificate.read(base64.b64decode(one)).proof for one in found],
+                             [proof.written(start, end, leaves.path(index, start, end), b"") for index in range(first, end)])
+        self.notes = [f"{len(subtrees(SIZE))} subtrees, {count} proofs"]
 
-def cosigned_cert(log, index, span):
-    """A certificate that three cosigners have signed."""
-    log.run("consist", "j", "0", str(SIZE), into="advance")
-    log.run("subtree", "j", *map(str, span), str(SIZE), into="subtree")
-    log.keys, log.signatures = zip(*map(log.cosigned, COSIGNERS))
-    log.write("signatures", b"".join(log.signatures))
-    return log.run("cert", "j", str(index), *map(str, span), "signatures")
+    def test_landmark_audits(self):
+        """audits of a certificate that is accepted by a landmark"""
+        log, (start, end) = self.log, covering(AUDITED)
+        store, cert, wanted = log.trusting(), log.run("light-cert", "j", AUDITED), log.leaves.hash(start, end).hex()
+        other = log.text.replace(f"n{AUDITED}.".encode(), f"m{AUDITED}.".encode())
+        for name, text, count in (("a changed entry", other, SIZE), ("an item too few", None, end - 1),
+                                  ("none of the interval", None, start - 1)):
+            text = text or log.run("entries", "j", count)
+            self.assertEqual(log.audited(cert, store, text), f"3 foreign {wanted} {log.part(text, start, end)}", name)
+        self.assertEqual(log.audited(cert, store, log.text), f"0 stands {AUDITED}")
+        self.assertEqual(log.audited(cert, log.trusting((start, end)), log.text), "3 refused LandmarkDiffers")
 
-
-def check_landmark_audits(log, index):
-    """Audits of a certificate that is accepted by a landmark."""
-    (start, end), store = covering(index), log.trusting()
-    cert, wanted = log.run("light-cert", "j", str(index)), log.hash((start, end)).hex()
-    other = log.text.replace(f"n{index}.".encode(), f"m{index}.".encode())
-    for name, text, count in (("a changed entry", other, SIZE), ("an item too few", None, end - 1),
-                              ("none of the interval", None, start - 1)):
-        text = text or log.run("entries", "j", str(count))
-        found = hashes_of(items(text)[start:end])
-        log.expect(name, log.audited(cert, store, text), f"3 foreign {wanted} {found}")
-    log.expect("by a landmark", log.audited(cert, store, log.text), f"0 stands {index}")
-    log.expect("refused", log.audited(cert, log.trusting((start, end)), log.text),
-               "3 refused LandmarkDiffers")
-
-
-def check_cosigner_audits(log, index):
-    """Audits of a certificate that is accepted by signatures, one of them in the export."""
-    cert = cosigned_cert(log, index, covering(index))
-    store, own = log.store(2), log.run("export", COSIGNERS[0])
-    log.expect("by cosigners", log.audited(cert, store, log.text, own), f"0 stands {index}")
-    log.expect("by cosigners, over a landmark", log.judged(cert, log.trusting(covering(index))),
-               "3 refused LandmarkDiffers")
-    short, wanted = log.run("entries", "j", str(SIZE - 1)), log.hash((0, SIZE)).hex()
-    log.expect("the last item left out", log.audited(cert, store, short, own),
-               f"3 foreign {wanted} {hashes_of(items(short))}")
-
-
-def main(words):
-    program = Path(words[0]).resolve() if words else ROOT / "crates/mtc_main/out/mtc_main"
-    if not words and subprocess.run([ROOT / "mtc", "member", ROOT / "examples/first.member"],
-                                    stdout=subprocess.DEVNULL).returncode:
-        return 70
-    log = LandmarkedLog(program)
-    for check in (check_lists, check_certificates):
-        check(log)
-    for check in (check_landmark_audits, check_cosigner_audits):
-        check(log, AUDITED)
-    shutil.rmtree(log.path)
-    print(*log.wrong, f"landmarks of a log of {SIZE} entries are listed, trusted and audited", sep="\n")
-    return bool(log.wrong)
+    def test_cosigner_audits(self):
+        """audits of a certificate that is accepted by signatures, one of them in the export"""
+        log, span = self.log, covering(AUDITED)
+        log.cosign(*span)
+        cert = log.cert(AUDITED, b"".join(log.signatures), *span)
+        store, own = log.store(2), log.run("export", COSIGNERS[0])
+        self.assertEqual(log.audited(cert, store, log.text, own), f"0 stands {AUDITED}")
+        self.assertEqual(log.judged(cert, log.trusting(span)), "3 refused LandmarkDiffers")
+        short, wanted = log.run("entries", "j", SIZE - 1), log.leaves.hash(0, SIZE).hex()
+        self.assertEqual(log.audited(cert, store, short, own), f"3 foreign {wanted} {log.part(short, 0, SIZE)}")
 
 
 if __name__ == "__main__":
-    sys.exit(main(sys.argv[1:]))
+    PROGRAM = program_of(sys.argv[1:])
+    sys.exit(run(checks_of(Landmarked)))

@@ -15,20 +15,21 @@ Usage: tests/mirrored_log.py [STEPS [NUMBER]]    so many steps, 150 if nothing i
 """
 
 import random
-import shutil
 import subprocess
 import sys
 import time
+from functools import partial
 from hashlib import sha256, sha384
 
-from cosignatures import COSIGNER, COSIGNER_ID, LOG, LOG_ID, ROOT, Folder
-from cosigned_log import vector
+from cosignatures import COSIGNER, COSIGNER_ID, LOG, LOG_ID
 from files.kills import next_span
-from hss_vectors import Tree
+from harness import Folder, OfLines, program_of, run
 from reference import certificate, cosigner, entry, hss, journal, merkle, mirror, proof, request
 from reference.der import BIT_STRING, SEQUENCE, encoded
 from reference.fault import Fault
+from reference.keys import Key
 from reference.log import short
+from reference.proof import vector
 from reference.store import anchor_id
 
 SECOND = "32473.7"
@@ -51,29 +52,6 @@ OTHER_LINES = {"BadItem": (2, "e: "), "TooLarge": (9, "")}
 
 def shown(file):
     return b"".join(vector(text) + vector(key) for text, key in file)
-
-
-class Key:
-    """A cosigner's private key, made of its secret (docs/FORMATS.md, "Keys and signatures")."""
-
-    def __init__(self, secret, levels):
-        self.levels, self.lower, self.top = levels, {}, Tree(LMS_TYPE, OTS_TYPE, secret)
-        self.public = hss.u32(levels) + self.top.public()
-
-    def lower_tree(self, number):
-        if number not in self.lower:
-            secret = self.top.secret_at(number, 65534)[:16] + self.top.secret_at(number, 65535)
-            self.lower[number] = Tree(LMS_TYPE, OTS_TYPE, secret)
-        return self.lower[number]
-
-    def signature(self, number, message):
-        """That of the one-time key with this number."""
-        if self.levels == 1:
-            return hss.u32(0) + self.top.signature(number, message)
-        child, place = divmod(number, 1 << HEIGHT)
-        lower = self.lower_tree(child)
-        above = hss.u32(1) + self.top.signature(child, lower.public()) + lower.public()
-        return above + lower.signature(place, message)
 
 
 # ---- items
@@ -126,10 +104,10 @@ class Mirrored(Folder):
         self.files["m"] = journal.written([mirror.mirror_body(LOG_ID)])
         for name, (log, levels) in COSIGNERS.items():
             secret = sha384(name.encode()).digest()
-            (self.path / "secret").write_bytes(secret)
+            self.write("secret", secret)
             command = "init-cosigner" if levels == 1 else "init-cosigner2"
             self.run(command, name, COSIGNER, log, *[str(HEIGHT)] * levels, "1", "secret")
-            self.files[name], self.keys[name] = (self.path / name).read_bytes(), Key(secret, levels)
+            self.files[name], self.keys[name] = self.read(name), Key(secret, [LMS_TYPE] * levels, OTS_TYPE)
             self.export(name)
         for name in OTHERS:
             # Again where it was killed.
@@ -139,13 +117,12 @@ class Mirrored(Folder):
     def count(self, name, how):
         self.counts[name, how] = self.counts.get((name, how), 0) + 1
 
-    def compare(self, line, status, out, err=b""):
+    def compare(self, line, status, out, err=""):
         """A command has to answer so, and to leave the files."""
-        ended = subprocess.run([self.program, *line.split()], cwd=self.path, capture_output=True)
-        found = (ended.returncode, ended.stdout, ended.stderr)
+        found = self.ended(line)
         if found != (status, out, err):
-            self.wrong.append(f"wrong: {line}: {found!r:.300} in place of {(status, out, err)!r:.300}")
-        self.count(line.split()[0], err.decode().split(": ")[-1].split()[0] if err else "done")
+            self.wrong.append(f"{line}: {found!r:.300} in place of {(status, out, err)!r:.300}")
+        self.count(line.split()[0], err.split(": ")[-1].split()[0] if err else "done")
 
     def adds(self, line, name, body, out):
         """A command has to add this record to a journal, and to print this; whether the record is
@@ -166,19 +143,19 @@ class Mirrored(Folder):
         process.kill()
         printed, err = process.communicate()
         self.span = next_span(self.span, printed != b"")
-        text = self.files[name] = (self.path / name).read_bytes()
+        text = self.files[name] = self.read(name)
         records = [*journal.bodies(text)]
         is_there, stays = (records == [*journal.bodies(one)] for one in (new, old))
         if err or not (out.startswith(printed) if is_there else stays and not printed):
-            self.wrong.append(f"wrong: {name} after {line} was killed, which had printed "
+            self.wrong.append(f"{name} after {line} was killed, which had printed "
                               f"{printed!r:.50} {err!r:.200}")
         self.count("killed", "printed" if printed else "there" if is_there else "not there")
         return is_there
 
     def left(self, after):
         for name, text in self.files.items():
-            if (self.path / name).read_bytes() != text:
-                self.wrong.append(f"wrong: {name} after {after}")
+            if self.read(name) != text:
+                self.wrong.append(f"{name} after {after}")
 
     def held(self):
         """What the mirror has by its journal, which is read again where it has changed."""
@@ -188,7 +165,7 @@ class Mirrored(Folder):
 
     def refused(self, line, fault):
         status, file = OTHER_LINES.get(fault.name, (4, ""))
-        self.compare(line, status, b"", f"mtc: {line.split()[0]}: {file}{fault}\n".encode())
+        self.compare(line, status, b"", f"mtc: {line.split()[0]}: {file}{fault}\n")
 
     # ---- steps
 
@@ -223,7 +200,7 @@ class Mirrored(Folder):
 
     def take(self):
         text, held = shown(self.drawn_list()), self.held()
-        (self.path / "e").write_bytes(text)
+        self.write("e", text)
         try:
             listed = entry.items(text)
             new = mirror.taken(held, listed)
@@ -243,9 +220,9 @@ class Mirrored(Folder):
         tiles = b"".join(merkle.leaf(text) for text, _ in held.items[:full])
         out = f"tiled {full}\n".encode()
         is_there = self.adds("mirror-tile m", "m", mirror.tiles_body(full), out)
-        found = self.files["m.tiles"] = (self.path / "m.tiles").read_bytes()
+        found = self.files["m.tiles"] = self.read("m.tiles")
         if found != (tiles if is_there else tiles[:len(found)]) or len(found) < 32 * held.tiled:
-            self.wrong.append(f"wrong: the tiles of {full}")
+            self.wrong.append(f"the tiles of {full}")
 
     def entries(self):
         held = self.held()
@@ -277,7 +254,7 @@ class Mirrored(Folder):
     def request(self, name, step):
         """A cosigner advances by a request of its own log: whether its record is there."""
         body = cosigner.advance_body(step)
-        (self.path / "request").write_bytes(short(anchor_id(COSIGNERS[name][0])) + body[1:])
+        self.write("request", short(anchor_id(COSIGNERS[name][0])) + body[1:])
         return self.adds(f"advance {name} request", name, body, f"advanced {step.size}\n".encode())
 
     def drawn_interval(self, size):
@@ -303,7 +280,7 @@ class Mirrored(Folder):
         key = self.keys[name]
         signature = key.signature(step.number, message)
         if hss.hss_answer(key.public, message, signature) != "Ok":
-            self.wrong.append(f"wrong: the signature that {line} has to print")
+            self.wrong.append(f"the signature that {line} has to print")
         self.adds(line, name, cosigner.sign_body(step), short(COSIGNER_ID) + vector(signature))
 
     def child(self, name, signer):
@@ -331,17 +308,19 @@ class Mirrored(Folder):
             self.export(name)
 
 
-def main(words):
-    if subprocess.run([ROOT / "mtc", "member", ROOT / "examples/first.member"], stdout=subprocess.DEVNULL).returncode:
-        return 70
-    steps, number = int(words[0]) if words else 150, int(words[1]) if words[1:] else int(time.time()) // (24 * 60 * 60)
-    played = Mirrored(ROOT / "crates/mtc_main/out/mtc_main", number)
+def check_played(played, steps):
+    """the answers and the files of a mirror and its cosigners, by steps that are drawn"""
     played.play(steps)
-    done = ", ".join(f"{count} {name}: {how}" for (name, how), count in sorted(played.counts.items(), key=str))
     held = played.held()
-    shutil.rmtree(played.path)
-    print(*played.wrong[:9], f"{steps} steps drawn by number {number}, of a mirror with {held.size} entries, {held.tiled} tiled: {done}", sep="\n")
-    return bool(played.wrong)
+    played.notes += [f"{steps} steps, of a mirror with {held.size} entries, {held.tiled} tiled",
+                     ", ".join(f"{count} {name}: {how}" for (name, how), count in sorted(played.counts.items(), key=str))]
+    return played.wrong
+
+
+def main(words):
+    steps, number = int(words[0]) if words else 150, int(words[1]) if words[1:] else int(time.time()) // (24 * 60 * 60)
+    print(f"drawn by number {number}")
+    return run([OfLines(partial(Mirrored, program_of([]), number), check_played, steps)])
 
 
 if __name__ == "__main__":

@@ -8,16 +8,15 @@ Usage: tests/real_files.py [KILLS [CHECK ..]]      a command is killed so many t
        less than 30 it may be that none is acknowledged, and that is wrong too
 """
 
-import shutil
 import signal
-import subprocess
 import sys
-import time
+from functools import partial
 
 from files import commands, disks, faults, kills, limits, locks, names, order, streams
 from files.commands import Scene
-from files.folder import ROOT, Folder, LeftOut
+from files.folder import Folder
 from files.streams import Judged
+from harness import OfLines, program_of, run
 
 # Each check with the files that it wants.
 CHECKS = [
@@ -38,44 +37,12 @@ CHECKS = [
 ]
 
 
-def tried(kind, check, killed):
-    """Prints what came of a check, and answers whether it is wrong."""
-    name, began = check.__name__.removeprefix("check_"), time.monotonic()
-    folder, wrong, lacks = None, [], None
-    try:
-        folder = kind(ROOT / "crates/mtc_main/out/mtc_main")
-        for line in check(folder, killed):
-            wrong.append(line)
-    except LeftOut as why:
-        lacks = why
-    except Exception as why:
-        # So that the other checks are tried too.
-        wrong.append(f"{type(why).__name__}: {why}")
-    try:
-        if folder:
-            shutil.rmtree(folder.path)
-    except OSError as why:
-        wrong.append(f"the folder can't be removed: {why}")
-    if lacks and not wrong:
-        print(f"left out: {name}: {lacks}")
-        return False
-    notes = [*(folder.notes if folder else ()), f"{time.monotonic() - began:.0f} s"]
-    print(f"{'wrong' if wrong else 'ok'}: {name}: {check.__doc__}", *wrong, *notes, sep="\n    ")
-    return bool(wrong)
-
-
 def main(words):
     # A signal that whoever began this ignores, as a shell does in the background, would be ignored by the program too.
     for one in (signal.SIGHUP, signal.SIGINT, signal.SIGQUIT, signal.SIGTERM):
         signal.signal(one, signal.SIG_DFL)
-    if subprocess.run([ROOT / "mtc", "member", ROOT / "examples/first.member"], stdout=subprocess.DEVNULL).returncode:
-        return 70
-    killed, chosen = int(words[0]) if words else 100, words[1:]
-    names_of = [check.__name__.removeprefix("check_") for _, check in CHECKS]
-    if unknown := [word for word in chosen if word not in names_of]:
-        sys.exit(f"no checks: {' '.join(unknown)}; there are {' '.join(names_of)}")
-    return int(any([tried(kind, check, killed) for (kind, check), name in zip(CHECKS, names_of)
-                    if not chosen or name in chosen]))
+    killed, program = int(words[0]) if words else 100, program_of([])
+    return run([OfLines(partial(kind, program), check, killed) for kind, check in CHECKS], words[1:])
 
 
 if __name__ == "__main__":

@@ -9,15 +9,15 @@ Usage: tests/tiled_log.py [KILLS [SIZE ..]]      100 kills, and the sizes of SIZ
 """
 
 import random
-import shutil
-import subprocess
 import sys
 import time
+from functools import partial
 
-from cosigned_log import parts
-from cosignatures import items
-from files.folder import ROOT, Folder, unlike
-from reference.merkle import List
+from cosigned_log import leaves_of
+from files.folder import Folder, unlike
+from harness import OfLines, program_of, run
+from hostile.changes import pieces
+from reference.proof import vector
 
 # About the ends of the first tiles, and about the first one of the next level.
 SIZES = [255, 256, 257, 511, 512, 65535, 65536, 65537]
@@ -39,7 +39,7 @@ def tiles_of(leaves, size):
 
 
 def hashes(some):
-    return (32 * len(some)).to_bytes(2, "big") + b"".join(some)
+    return vector(b"".join(some))
 
 
 def said(folder, *words):
@@ -74,16 +74,18 @@ def in_list(leaves, size, found):
         if command == "consist":
             wanted = ID + end + root + hashes(leaves.proof(0, index, 0, size))
         else:
-            text = parts(text)[2][-len(hashes(leaves.path(index, 0, size))) - 18:]
+            text = pieces(text)[2][-len(hashes(leaves.path(index, 0, size))) - 18:]
             wanted = bytes(8) + end + hashes(leaves.path(index, 0, size)) + bytes(2)
         yield from unlike(f"{command} {index}", text, wanted)
 
 
 def check_size(folder, size):
-    """What is wrong with a log of so many entries, which is left tiled."""
+    """a log of so many entries, which is left tiled"""
     random.seed(size)
+    (folder.path / "none").write_bytes(b"")
     folder.long_log(size)
-    leaves = List(items(said(folder, "entries", "j", str(size))))
+    folder.notes.append(f"{size} entries")
+    leaves = leaves_of(said(folder, "entries", "j", str(size)))
     before, full = written(folder, size), size // 256 * 256
     nothing = (4, "", "mtc: tile: NothingNew\n")
     yield from unlike("tile", folder.run(["tile", "j"]), (0, f"tiled {full}\n", "") if full else nothing)
@@ -182,19 +184,9 @@ def check_kills(folder, kills):
 
 
 def main(words):
-    if subprocess.run([ROOT / "mtc", "member", ROOT / "examples/first.member"], stdout=subprocess.DEVNULL).returncode:
-        return 70
     kills, sizes = int(words[0]) if words else 100, [int(word) for word in words[1:]] or SIZES
-    folder, status = Folder(ROOT / "crates/mtc_main/out/mtc_main"), 0
-    (folder.path / "none").write_bytes(b"")
-    for size in sizes:
-        wrong = list(check_size(folder, size))
-        print(f"{'wrong' if wrong else 'ok'}: a log of {size} entries", *wrong[:9], sep="\n    ")
-        status |= bool(wrong)
-    wrong = list(check_kills(folder, kills))
-    shutil.rmtree(folder.path)
-    print(f"{'wrong' if wrong else 'ok'}: {check_kills.__doc__}", *wrong[:9], *folder.notes, sep="\n    ")
-    return status | bool(wrong)
+    make = partial(Folder, program_of([]))
+    return run([*(OfLines(make, check_size, size) for size in sizes), OfLines(make, check_kills, kills)])
 
 
 if __name__ == "__main__":

@@ -10,6 +10,8 @@ import sys
 import tempfile
 from pathlib import Path
 
+from harness import LeftOut  # noqa: F401, for the checks
+
 ROOT = Path(__file__).resolve().parent.parent.parent
 NOBODY = 65534
 KEY = "MCowBQYDK2VwAyEAAAAAAAAAAAAAAAAAAAAAAAAAAAAAAAAAAAAAAAAAAAA="
@@ -17,10 +19,6 @@ DATES = 'not_before = "2026-01-01T00:00:00Z"\nnot_after = "2026-01-08T00:00:00Z"
 # How many seconds a command may take, also beside much other work; the slowest one takes some twenty.
 LONGEST = 600
 NEW_LOG = ["init-log", "j", "32473.1", "2", "100000"]
-
-
-class LeftOut(Exception):
-    """What this machine lacks for a check."""
 
 
 class Folder:

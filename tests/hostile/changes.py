@@ -2,7 +2,7 @@
 
 import json
 
-from reference.der import OCTET_STRING, Fields, encoded
+from reference.der import BIT_STRING, OCTET_STRING, SEQUENCE, Fields, encoded
 from reference.fault import Fault
 
 NULL, NOTHING, CONSTRUCTED = b"\x05\0", b"\0\0", 0x20
@@ -22,6 +22,11 @@ def pieces(text):
     except Fault:
         pass
     return found if b"".join(found) == element.contents else []
+
+
+def with_proof(cert, proof):
+    """The certificate with another proof."""
+    return encoded(SEQUENCE, b"".join([*pieces(cert)[:2], encoded(BIT_STRING, b"\0" + proof)]))
 
 
 def changes(text):

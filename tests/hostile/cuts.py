@@ -2,11 +2,11 @@
 
 from itertools import chain, product
 
-from cosigned_log import vector
 from reference import cosigner, journal, mirror
 from reference.cosigner import Sign
 from reference.hss import u32
 from reference.log import BATCH, batch_body
+from reference.proof import vector
 
 from .scenes import FORMLESS, LARGER, LATER, SPAN, advance, advanced, batch_bodies, export, items, log, log_bodies, lower_export
 from .scenes import lower_settings, lower_steps, mirror_bodies, steps, used_up

@@ -1,16 +1,17 @@
-"""Certificates and stores that are changed: those of crates/test_tables, with signatures of three cosigners."""
+"""Certificates and stores that are changed: those of certificates.txt, with signatures of three cosigners."""
 
 import base64
 from functools import cache
 from hashlib import sha384
+from pathlib import Path
 
-from cosigned_log import vector, with_proof
-from hss_vectors import Tree
-from reference import certificate, proof, store, tables
+from reference import certificate, proof, store
 from reference.der import BIT_STRING, SEQUENCE, encoded
-from reference.hss import u32
+from reference.keys import Key
+from reference.log import short
+from reference.proof import vector
 
-from .changes import pieces, toml
+from .changes import pieces, toml, with_proof
 
 LOG, COSIGNERS = "32473.1", ["32473.2", "32473.3", "32473.4"]
 FIRST, LAST, SPAN = 1767225600, 1767830400, (0, 2)
@@ -20,16 +21,22 @@ ALGORITHM, VALIDITY, EXTENSIONS = 2, 4, 7
 
 
 @cache
+def lines():
+    """The words of each line of certificates.txt."""
+    text = (Path(__file__).parent / "certificates.txt").read_text()
+    return [line.split() for line in text.splitlines() if not line.startswith("#")]
+
+
+@cache
 def asked():
-    """The certificates that crates/test_tables is asked about, by their labels."""
-    return {words[1]: tables.hexadecimal(words[-1]) for words in tables.asked(tables.CERTIFICATES)}
+    """The certificates, by their labels."""
+    return {label: bytes.fromhex(text) for label, text, *_ in lines()}
 
 
 @cache
 def trusted():
-    """The subtrees that it is to trust, as tables of a store, by the labels of their certificates."""
-    found = [words[1:7] for words in tables.asked(("judgement",))]
-    return {label: {"start": int(start), "end": int(end), "hash": hash} for label, _, _, start, end, hash in found}
+    """The subtrees that are trusted, as tables of a store, by the labels of their certificates."""
+    return {label: {"start": int(span[0]), "end": int(span[1]), "hash": span[2]} for label, _, *span in lines() if span}
 
 
 @cache
@@ -37,17 +44,15 @@ def signers():
     """The id, the public key and the signature of each cosigner, over the subtree of the certificate `small`."""
     found, node = [], bytes.fromhex(trusted()["small"]["hash"])
     for text in COSIGNERS:
-        tree, id = Tree(HEIGHT_5, WIDTH_4, sha384(text.encode()).digest()), store.anchor_id(text)
-        message = proof.signed_bytes(id, store.anchor_id(LOG), *SPAN, node)
-        found.append((id, u32(1) + tree.public(), u32(0) + tree.signature(0, message)))
+        key, id = Key(sha384(text.encode()).digest(), [HEIGHT_5], WIDTH_4), store.anchor_id(text)
+        found.append((id, key.public, key.signature(0, proof.signed_bytes(id, store.anchor_id(LOG), *SPAN, node))))
     return found
 
 
 def signed(signatures):
     """The certificate `small` with these signatures, each after an id."""
-    path = vector(b"".join(proof.read(certificate.read(asked()["small"]).proof).path))
-    listed = b"".join(bytes([len(id)]) + id + vector(text) for id, text in signatures)
-    return with_proof(asked()["small"], b"".join(one.to_bytes(8, "big") for one in SPAN) + path + vector(listed))
+    path = proof.read(certificate.read(asked()["small"]).proof).path
+    return with_proof(asked()["small"], proof.written(*SPAN, path, b"".join(short(id) + vector(text) for id, text in signatures)))
 
 
 def root_of(**more):

@@ -2,13 +2,15 @@
 
 import base64
 import random
+from hashlib import sha384
 from itertools import combinations, product
 
-from cosigned_log import vector, with_proof
-from reference import certificate, commands, judging, times
+from reference import certificate, commands, hss, judging, proof, store, times
 from reference.der import SEQUENCE, encoded
+from reference.keys import OnePath
+from reference.proof import vector
 
-from .changes import other_tables, pieces, variants
+from .changes import other_tables, pieces, variants, with_proof
 from .files import COSIGNERS, FIRST, LAST, LOG, asked, rebuilt, root_of, signed, signers, text_of, trusted
 
 # A critical extension that isn't known; the algorithm with parameters.
@@ -30,12 +32,17 @@ TEXTS = [b"", b"[log", b"\xff", b'[log]\nid = "32473.1"\n', b'[[log]]\nid = "324
          b'[log]\nid = "32473.1"\nid = "32473.1"\n']
 
 
-def certificates():
-    """one element of a certificate is another, dropped, doubled or moved to the end"""
+def samples():
+    """Each certificate with a store that trusts its subtree, if one is trusted for it, and a time."""
     for label, now in (("small", FIRST), ("signed", LAST), ("large", FIRST), ("many", FIRST)):
         subtree = trusted().get(label, trusted()["small"])
-        known = text_of(root_of(subtree=[subtree], revoked=[{"start": 7, "end": 9}]))
-        yield from ((text, known, now) for text in {asked()[label]: 0, **dict.fromkeys(variants(asked()[label]))})
+        yield asked()[label], text_of(root_of(subtree=[subtree], revoked=[{"start": 7, "end": 9}])), now
+
+
+def certificates():
+    """one element of a certificate is another, dropped, doubled or moved to the end"""
+    for sample, known, now in samples():
+        yield from ((text, known, now) for text in {sample: 0, **dict.fromkeys(variants(sample))})
 
 
 def proofs():
@@ -117,6 +124,50 @@ def signatures():
     yield from ((signed(some), text_of(root), LAST) for some in signature_lists() for root in stores_of)
 
 
+# The typecodes of the height and of the width of each level of a key, by which all changes are tried; of all others the signature alone.
+ONE_LEVEL = [[(lms, ots)] for lms, ots in product(hss.LMS, hss.LMOTS)]
+LEVELS = [[(5, 3)] * 2, [(6, 2), (5, 3)], [(5, 4), (6, 1)], [(5, 3)] * 3, *([(5, 4)] * count for count in range(4, 9))]
+CHANGED = [[(5, 4)], [(9, 4)], [(5, 3)] * 2, [(5, 4)] * 3]
+
+
+def signed_by(types, message):
+    """A key with these levels, and a signature by the last one-time key of each."""
+    trees = [OnePath(*type, sha384(bytes([at])).digest(), (1 << hss.LMS[type[0]]) - 1) for at, type in enumerate(types)]
+    signature = hss.u32(len(types) - 1)
+    for above, below in zip(trees, trees[1:]):
+        signature += above.signature(above.number, below.public()) + below.public()
+    return hss.u32(len(types)) + trees[0].public(), signature + trees[-1].signature(trees[-1].number, message)
+
+
+def other_signatures(types, key, text):
+    """Other keys and signatures: a byte of a field of one level is another, the key has another number of levels or is short, the
+    signature is cut or longer."""
+    places, at = [0, 3], 4
+    for _, ots in types:
+        path = at + 8 + 32 * (1 + hss.LMOTS[ots][1])
+        places += [at, at + 3, at + 7, at + 8, at + 40, path - 1, path + 3, path + 4]
+        at += hss.prefix_length(text[at:])
+        places += [at - 1, *(one for one in (at, at + 3, at + 7, at + 8, at + 24, at + 55) if one < len(text))]
+        at += 56
+    yield from ((key, text[:place] + bytes([text[place] ^ 1]) + text[place + 1:]) for place in places)
+    yield from ((key, other) for other in (b"", text[:3], text[:4], text[:len(text) // 2], text[:-1], text + b"\0", b"\xff" * 4 + text[4:]))
+    yield from ((key[:place] + bytes([key[place] ^ 1]) + key[place + 1:], text) for place in (3, 7, 11, 12, 30))
+    yield from ((other, text) for other in (key[:-1], hss.u32(9) + key[4:], hss.u32(0) + key[4:], hss.u32(len(types) + 1) + key[4:]))
+
+
+def levels():
+    """a signature is by a key of another height, width or number of levels, or one field of it or of the key is another"""
+    id, node = store.anchor_id(COSIGNERS[0]), bytes.fromhex(trusted()["small"]["hash"])
+    message = proof.signed_bytes(id, store.anchor_id(LOG), 0, 2, node)
+    for types in [*ONE_LEVEL, *LEVELS]:
+        key, text = signed_by(types, message)
+        tried = [(key, text), (key, signed_by(types, message + b"\0")[1])]
+        for key, text in [*tried, *(other_signatures(types, key, text) if types in CHANGED else ())]:
+            known = root_of(rule=[{"cosigners": COSIGNERS[:1], "count": 1}])
+            known["cosigner"] = [{"id": COSIGNERS[0], "key": base64.b64encode(key).decode()}]
+            yield signed([(id, text)]), text_of(known), LAST
+
+
 def whole_root():
     """The tree of a store with tables of each kind."""
     rules = [{"cosigners": COSIGNERS, "count": 2}, {"cosigners": COSIGNERS[:1], "count": 1}]
@@ -151,4 +202,4 @@ def said(run, text, store_file, now):
 
 
 KINDS = [(kind, wanted, said) for kind in (
-    certificates, algorithms, unix_times, proofs, signatures, stores, reasons, two_changes)]
+    certificates, algorithms, unix_times, proofs, signatures, levels, stores, reasons, two_changes)]

@@ -4,11 +4,12 @@ import base64
 from functools import cache
 from hashlib import sha384
 
-from cosigned_log import vector
-from hss_vectors import Tree
 from reference import certificate, cosigner, entry, journal, log as log_records, merkle, mirror, proof, request, store
 from reference.cosigner import Advance, Sign
 from reference.hss import u32
+from reference.keys import Key
+from reference.log import short
+from reference.proof import vector
 
 from .files import COSIGNERS, FIRST, LAST, LOG, asked, root_of, signed, signers, text_of, trusted
 
@@ -60,10 +61,6 @@ def steps():
             cosigner.advance_body(advance(LATER, HELD))]
 
 
-def short(text):
-    return bytes([len(text)]) + text
-
-
 def export():
     """What the cosigner exports that has signed the certificate."""
     id, key, _ = signers()[0]
@@ -108,12 +105,9 @@ def secret():
 @cache
 def lower_signer():
     """The public key of two levels of a cosigner with this secret, and its signature of the certificate's subtree."""
-    upper = Tree(HEIGHT_5, WIDTH_1, secret())
-    # The places above the chains and the randomizer of a one-time key.
-    lower = Tree(HEIGHT_5, WIDTH_1, upper.secret_at(0, 65534)[:16] + upper.secret_at(0, 65535))
+    key = Key(secret(), [HEIGHT_5, HEIGHT_5], WIDTH_1)
     message = proof.signed_bytes(store.anchor_id(COSIGNERS[0]), store.anchor_id(LOG), *SPAN, log().hash(*SPAN))
-    signature = u32(1) + upper.signature(0, lower.public()) + lower.public() + lower.signature(0, message)
-    return u32(2) + upper.public(), signature
+    return key.public, key.signature(0, message)
 
 
 @cache

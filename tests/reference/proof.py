@@ -38,6 +38,11 @@ class Cursor:
         return self.bytes(self.number(width, begin), begin)
 
 
+def vector(text):
+    """Bytes after their length, of two bytes."""
+    return len(text).to_bytes(2, "big") + text
+
+
 def path_in(cursor):
     """The hashes of the inclusion path."""
     text = cursor.vector(2)
@@ -71,9 +76,7 @@ def read(text):
 
 def written(start, end, path, signatures):
     """The bytes of a proof."""
-    hashes = b"".join(path)
-    lengths = [len(part).to_bytes(2, "big") for part in (hashes, signatures)]
-    return start.to_bytes(8, "big") + end.to_bytes(8, "big") + lengths[0] + hashes + lengths[1] + signatures
+    return start.to_bytes(8, "big") + end.to_bytes(8, "big") + vector(b"".join(path)) + vector(signatures)
 
 
 def signed_bytes(cosigner, log, start, end, node):

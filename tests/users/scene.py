@@ -7,6 +7,8 @@ import sys
 import tempfile
 from pathlib import Path
 
+from harness import LeftOut
+
 ROOT = Path(__file__).resolve().parent.parent.parent
 TOOLS = ROOT / "tools"
 DATES = 'not_before = "2026-01-01T00:00:00Z"\nnot_after = "2026-01-08T00:00:00Z"\n'
@@ -17,10 +19,6 @@ LOG = "32473.1"
 LONGEST = 600
 # The scripts run the Python that runs the checks.
 os.environ["PATH"] = f"{Path(sys.executable).parent}{os.pathsep}{os.environ['PATH']}"
-
-
-class LeftOut(Exception):
-    """What this machine lacks for a check."""
 
 
 def lacks(*programs):
