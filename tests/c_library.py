@@ -1,8 +1,8 @@
 #!/usr/bin/env python3
 """Compares what the C library says of certificates, by calls from Python, C and Go, with what the readers of tests/reference say.
 
-The rows are those of tests/hostile_files.py for `verify`, and as many again that are changed at random: ROUNDS of them, by the number of
-the day since 1970 in UTC, which the line says. Refusals and fields have the names of include/mtc.h. The calls are made one after the
+The rows are those of tests/hostile_files.py for `verify`; certificates of which each byte is each of all values; and ROUNDS of these rows
+that are changed at random, by the number of the day since 1970 in UTC, which the line says. Refusals and fields have the names of include/mtc.h. The calls are made one after the
 other, then by eight threads at once, and by a program of C in threads that have no more stack than the header says, also of the largest
 certificates. Of a certificate that is accepted, key, names and the entry's hash are compared too, in a buffer that is just long enough,
 and in one that is too short. Names of refusals, null pointers, the interface's number, what the callers of examples/c say of bad words
@@ -22,6 +22,8 @@ import tarfile
 import tempfile
 import time
 from concurrent.futures import ThreadPoolExecutor
+from functools import cache
+from multiprocessing import Pool
 from pathlib import Path
 
 from callers import largest, programs
@@ -346,6 +348,27 @@ def check_programs(library, folder, archive, shared, table):
     return status | report("another interface, no library and no memory are refused by name", wrong)
 
 
+@cache
+def library_at(path):
+    """The library and the names of the header, once a process."""
+    return Library(path), header_names()
+
+
+def wrong_byte(path, row, place):
+    """How the verdicts differ where a byte of a certificate is each of all values."""
+    cert, *beside = row
+    return [f"byte {place}, value {value}: {one}" for value in range(256)
+            for one in wrong_row(*library_at(path), (cert[:place] + bytes([value]) + cert[place + 1:], *beside))]
+
+
+def check_bytes(path):
+    """Each byte of certificates is each of all values, by all processors."""
+    tasks = [(path, row, place) for row in judgements.samples() for place in range(len(row[0]))]
+    with Pool() as pool:
+        wrong = [one for found in pool.starmap(wrong_byte, tasks, 8) for one in found]
+    return report("certificates of which each byte is each of 256 values", wrong, f": {len(tasks)} bytes")
+
+
 def check_random(library, names, table, rounds, day):
     """Rows that are changed at random."""
     draws = random.Random(day)
@@ -381,7 +404,7 @@ def main(words):
         status |= check_programs(library, folder, archive, shared, table)
         status |= report("the library is made twice, byte for byte", list(wrong_twice(folder, archive, shared)))
         status |= report("whoever unpacks a release builds a caller as its README says", list(wrong_release(folder)))
-        status |= check_random(library, names, table, rounds, day)
+        status |= check_bytes(shared) | check_random(library, names, table, rounds, day)
     return int(status)
 
 

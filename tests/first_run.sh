@@ -87,7 +87,7 @@ run_mtc
 is_built || complain "the program isn't built and run with its words"
 [ "$asked" -gt 20 ] && [ -z "$(sort "$folder/asked" | uniq -d)" ] || complain "a crate is proved twice, or crates are left out"
 grep -q '^early' "$folder/asked" && complain "a crate is proved before one that it names"
-grep -q "^asked test_tables" "$folder/asked" && complain "a crate is proved that the program doesn't stand on"
+grep -q "^asked test_run" "$folder/asked" && complain "a crate is proved that the program doesn't stand on"
 [ "$(grep -c "of $asked: .* is proved" "$folder/said")" -eq "$asked" ] || complain "there isn't a line for each crate"
 grep -q "proved now: $asked of $asked crates" "$folder/said" || complain "the crates that were proved aren't counted"
 grep -q "log is $folder/crates/mtc_main/out/build.log" "$folder/said" || complain "nothing says where the log is"
@@ -95,8 +95,8 @@ grep -q "log is $folder/crates/mtc_main/out/build.log" "$folder/said" || complai
 run_mtc
 is_built && [ "$asked" -eq 0 ] && [ ! -s "$folder/said" ] || complain "a program that is new enough is built again"
 
-touch "$folder/crates/test_tables/src/lib.rt"
-sed -i 's/^test_tables: /&landmarks /' "$folder/crates.txt"
+touch "$folder/crates/test_run/src/lib.rt"
+sed -i 's/^test_run: /&landmarks /' "$folder/crates.txt"
 run_mtc
 is_built && [ "$asked" -eq 0 ] || complain "a crate that the program doesn't stand on makes it stale"
 
