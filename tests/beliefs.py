@@ -251,7 +251,7 @@ def edit_rows():
         names = [edit.stem for edit in edited.edits_of(name)]
         mine = [force[f"{name}/{one}"] for one in names if f"{name}/{one}" in force]
         counts = [sum(one.way == way for one in mine) for way in WAYS]
-        counts += [sum(one.clause == "public" for one in mine), len(names) - len(mine)]
+        counts += [sum(one.clause in ("public", "called") for one in mine), len(names) - len(mine)]
         yield f"| `{name}` | {len(names)} | {' | '.join(map(str, counts))} | {', '.join(map(spoken, names))} |"
 
 
@@ -259,10 +259,10 @@ def edits_summary():
     """What BELIEFS says of all edits."""
     force = list(ledger.in_force().values())
     ways = [sum(one.way == way for one in force) for way in WAYS]
-    kinds = [sum(one.clause == kind for one in force) for kind in ("public", "private", "-")]
+    kinds = [sum(one.clause == kind for one in force) for kind in ledger.CLAUSES]
     return (f"There are {len(ledger.edits())} edits. Of these {len(ledger.waiting())} wait for their try, and {len(force)} are refused: "
-            f"{ways[0]} by the search, {ways[1]} by a proof by hand, {ways[2]} by one of the two; {kinds[0]} by a public clause, {kinds[1]} "
-            f"by a private one, {kinds[2]} by one of the two.")
+            f"{ways[0]} by the search, {ways[1]} by a proof by hand, {ways[2]} by one of the two; {kinds[0]} by a public clause of "
+            f"the changed call, {kinds[1]} by one of a call in it, {kinds[2]} by a private one, {kinds[3]} by one of which it isn't known.")
 
 
 def spoken(name):

@@ -6,7 +6,10 @@ Usage: tests/edits.py [--jobs N] [CRATE | CRATE/EDIT ..]    these edits, all of 
        tests/edits.py [--jobs N] --gate LOG                 as .ci/run does: those that wait, for a quarter of an hour or as many minutes
                                                             as MTC_EDIT_MINUTES says, none if it is 0; all of two crates drawn by the
                                                             day; and whether rt ci, by its log, named a clause
+       tests/edits.py --log LOG                             those of must-fail/ that wait, and of which a log of rt ci names the clause
        tests/edits.py [--jobs N] --idle CRATE/EDIT ..       whether the private clause that refuses an edit is needed by anything
+       --jobs N, and then --proved stand before these words: so many processes share a check; and a run of rt ci has proved these crates
+                                                            as they stand, so that their functions aren't proved once more before they are changed
 
 An edit is a small change that makes a function wrong. It stands in crates/CRATE/must-fail, where rt ci tries it at each run, or in
 tests/edits/CRATE, where only this script does. Both are tried here, on a copy of the sources.
@@ -21,12 +24,13 @@ A clause stands open in one of two ways. The search for its proof fails. Or what
 longer: the proof of the clause, or the invariant of a loop, which stands in a proof. Both are reported apart, since
 the second says less: another one might fit. A search that gives up at a limit of its own has failed like one that has
 tried all, so the first doesn't show either that the clause is false. A clause is public if it is one of a call that other crates
-can make; a private one may say the body again, and --idle asks whether anything needs it.
+can make, the changed one itself or one that it calls; a private one may say the body again, and --idle asks whether anything needs it.
 
 Edits of different functions are made in one copy, and one check says of each: a function is proved by the contracts of
 those that it calls, so a wrong body elsewhere changes nothing for it. Edits of one function, and those that didn't
 count beside others, are tried one by one. All of it begins with what `rt check` has kept, and takes some 5 to 14 processor
-seconds an edit; where nothing is kept, the crate and all below are proved first.
+seconds an edit. Where nothing is kept, the libraries of all crates below are proved first, and of the crate the functions that edits
+change; but for these in the gate, and with --proved.
 
 What a line of the ledger promises: on some machine this edit was refused against what its sums are of. Who wrote the line
 is believed for that. Who doesn't want to believe it, as a release does, runs this script for all crates.
@@ -62,10 +66,12 @@ REQUIRED_GOAL = re.compile(r"(\w+?)(?:-\d+)?-requires")
 OF_STD = {"add", "advance", "append", "make_room", "new", "next", "push", "put", "read", "read_at", "split", "take", "write"}
 GONE = re.compile(r"has no field|is not in scope|has no `|was not admitted|unknown name|unexpected")
 LIMIT = re.compile(r"antt ran out of|outgrew the memory limit|stopped at the step limit|stopped at its own limit|may hold")
-PROVED = re.compile(r"^fn (\S+): proved$", re.M)
+IS_PROVED = re.compile(r"^(logic=proved.*|only=(\d+) proved=\2)$", re.M)
 
-# A clause that stands open: whether a search left it so, whether it is public, what the check says, its goal.
-Open = collections.namedtuple("Open", "by_search public what goal")
+# A clause that stands open: whether a search left it so, of which kind it is, what the check says, its goal.
+Open = collections.namedtuple("Open", "by_search kind what goal")
+# The kinds: public and of a changed call, public and of a call in it, private.
+KINDS = ledger.CLAUSES[:3]
 # What came of an edit: whether it counts, by which clause, and what is said of it.
 Found = collections.namedtuple("Found", "counts clause what")
 # How many minutes the gate tries edits that wait, and how many crates it draws.
@@ -75,9 +81,10 @@ MINUTES, DRAWN = 15, 2
 class Copy:
     """A copy of the sources of all crates, in which edits are made and checked."""
 
-    def __init__(self, jobs):
+    def __init__(self, jobs, is_proved=False):
         self.room = pathlib.Path(tempfile.mkdtemp(prefix="edits-"))
         self.flags = ["--jobs", jobs] if jobs else []
+        self.is_proved = is_proved
         for name in ("crates.txt", "HANDLES"):
             shutil.copy(ROOT / name, self.room)
         self.stamps = {name: stamp_of(name) for name in CRATES}
@@ -112,19 +119,20 @@ class Copy:
                 os.killpg(run.pid, signal.SIGKILL)
                 run.wait()
 
-    def prove(self, crate):
-        """Proves the crate as it stands, and lays aside what the check kept."""
-        said = self.check(crate)
-        if "\nlogic=proved" in said:
+    def prove(self, crate, functions=()):
+        """Proves the crate as it stands, or these functions of it, and lays aside what the check kept."""
+        said = self.check(crate, functions)
+        if IS_PROVED.search(said):
             linked(self.folder(crate) / "out" / "incremental", self.room / "proved" / crate)
         return said
 
     def begin(self, crate):
-        """Puts the crate, and what its check kept, as they were when it was proved."""
+        """Puts the crate, and what its check kept, as they were when it was proved; what checks kept since stays where it wasn't proved here."""
         self.renew(crate)
         kept = self.folder(crate) / "out" / "incremental"
-        shutil.rmtree(kept, ignore_errors=True)
-        linked(self.room / "proved" / crate, kept)
+        if (self.room / "proved" / crate).is_dir():
+            shutil.rmtree(kept, ignore_errors=True)
+            linked(self.room / "proved" / crate, kept)
 
     def remove(self):
         shutil.rmtree(self.room, ignore_errors=True)
@@ -165,14 +173,14 @@ def is_public(crate, function):
 
 
 def kind_of(crate, functions, what, goal):
-    """Whether a goal is of a clause, and of a public one: of the changed functions, of what they call, of a type, or of a loop."""
+    """Whether a goal is of a clause, and its kind: of the changed functions, of what they call, of a type, or of a loop."""
     required = REQUIRED.match(what) or REQUIRED_GOAL.search(goal)
     if required:
         near = [one for home in edited.near(crate) for one in CRATES[home].functions if one.name == required[1] and one.requires]
-        return has_own_requires(crate, required[1]), any(one.public for one in near)
+        return has_own_requires(crate, required[1]), KINDS[1] if any(one.public for one in near) else KINDS[2]
     if what.startswith("what the function ensures") or not what and goal.startswith("returns"):
-        return True, any(is_public(crate, one) for one in functions)
-    return what.startswith(CLAUSES) or goal.startswith("invariant_of") or not what and goal.endswith("-preserved"), False
+        return True, KINDS[0] if any(is_public(crate, one) for one in functions) else KINDS[2]
+    return what.startswith(CLAUSES) or goal.startswith("invariant_of") or not what and goal.endswith("-preserved"), KINDS[2]
 
 
 def clauses_in(edit, said):
@@ -182,30 +190,30 @@ def clauses_in(edit, said):
         its = [it.function for it in own if it.file == file and it.begin <= int(line) < it.end]
         if its or edit.stands_alone:
             goal = (re.findall(r"\(`([^`]+)`\)", what) or [""])[-1]
-            is_clause, public = kind_of(crate, its, what, goal)
+            is_clause, kind = kind_of(crate, its, what, goal)
             fits = not LIMIT.search(tail) and (is_clause or what.startswith(LOOP))
-            (clauses if fits else rest).append(Open(is_clause, public, f"{what}, {file}:{line}", goal))
+            (clauses if fits else rest).append(Open(is_clause, kind, f"{what}, {file}:{line}", goal))
     for place, goal, why in UNFIT.findall(said):
         its = [it.function for it in own if is_of(it, place)]
         if its or edit.stands_alone:
-            is_clause, public = kind_of(crate, its, "", goal)
+            is_clause, kind = kind_of(crate, its, "", goal)
             fits = is_clause and not GONE.search(why) and not LIMIT.search(why)
             what = f"the proof by hand of `{goal}` doesn't fit: {why}".split("\n")[0]
-            (clauses if fits else rest).append(Open(False, public, what, goal))
-    return sorted(clauses, key=lambda one: (not one.by_search, not one.public)), rest
+            (clauses if fits else rest).append(Open(False, kind, what, goal))
+    return sorted(clauses, key=lambda one: (not one.by_search, KINDS.index(one.kind))), rest
 
 
 def found_of(edit, said):
     """What a check says of the functions that an edit changes; of all functions, where it changes none."""
     clauses, rest = clauses_in(edit, said)
     if clauses:
-        return Found(True, clauses[0]._replace(public=any(one.public for one in clauses)), clauses[0].what)
+        return Found(True, clauses[0]._replace(kind=min((one.kind for one in clauses), key=KINDS.index)), clauses[0].what)
     return Found(False, None, f"refused, and no clause: {rest[0].what}" if rest else "")
 
 
 def why_nothing(said):
     """Why a check of one edit says nothing of its function."""
-    if re.search(r"^(logic=proved|only=(\d+) proved=\2$)", said, re.M):
+    if IS_PROVED.search(said):
         return "NOT REFUSED: it is still proved"
     limit = LIMIT.search(said)
     if limit:
@@ -228,19 +236,27 @@ def together(edits):
     return groups
 
 
-def named(edits, known):
-    """The functions that edits change, as a check names them; nothing, where one is of none or of several."""
-    names = []
-    for edit in edits:
-        for one in edit.functions:
-            fitting = [it for it in known if one and is_of(one, "/".join(it.split("::")[1:]))]
-            if len(fitting) != 1:
-                return []
-            names += fitting
+def named(edits):
+    """The functions that edits change, as a check names them; nothing, where that of one of them isn't clear from the sources."""
+    names = set().union(*(edit.names() for edit in edits))
+    return [] if None in names else sorted(names)
+
+
+def proved_names(copy, crate, edits):
+    """Proves the functions that edits change, as they stand, and returns their names; the whole crate, and none, where they aren't clear.
+    Where rt ci has proved the crates nothing is proved once more."""
+    names = named(edits)
+    if names and copy.is_proved:
+        return names
+    said = copy.prove(crate, names)
+    if names and not IS_PROVED.search(said):
+        names, said = [], copy.prove(crate)
+    if not IS_PROVED.search(said):
+        sys.exit(f"{said[-2000:]}\n{crate} itself is not proved")
     return names
 
 
-def tried_together(copy, crate, group, known):
+def tried_together(copy, crate, group, names):
     """(edit, what was found) for each edit of a group, and those that have to be tried one by one."""
     copy.begin(crate)
     faults = [(edit, why) for edit in group if (why := edit.applied(copy.folder(crate)))]
@@ -248,7 +264,7 @@ def tried_together(copy, crate, group, known):
         return [], group
     if faults:
         return [(group[0], Found(False, None, faults[0][1]))], []
-    said = copy.check(crate, named(group, known))
+    said = copy.check(crate, names and named(group))
     done, again = [], []
     for edit in group:
         found = found_of(edit, said)
@@ -260,16 +276,15 @@ def tried_together(copy, crate, group, known):
 
 
 def tried(copy, crate, edits):
-    """(edit, what was found) for these edits of a crate."""
-    said = copy.prove(crate)
-    if "\nlogic=proved" not in said:
-        sys.exit(f"{said[-2000:]}\n{crate} itself is not proved")
-    known, results = PROVED.findall(said), []
-    for group in together(edits):
-        done, again = tried_together(copy, crate, group, known)
-        results += done
-        for edit in again:
-            results += tried_together(copy, crate, [edit], known)[0]
+    """(edit, what was found) for these edits of a crate: those first whose functions can be checked alone."""
+    unclear, results = [it for it in edits if not named([it])], []
+    for part in ([it for it in edits if it not in unclear], unclear):
+        names = proved_names(copy, crate, part) if part else []
+        for group in together(part):
+            done, again = tried_together(copy, crate, group, names)
+            results += done
+            for edit in again:
+                results += tried_together(copy, crate, [edit], names)[0]
     copy.begin(crate)  # crates above are checked over it as it stands
     return results
 
@@ -279,8 +294,8 @@ def reported(copy, crate, edits):
     before, begun = seconds(), time.monotonic()
     results = tried(copy, crate, edits)
     for edit, found in sorted(results, key=lambda it: it[0].name):
-        kind = "public" if found.counts and found.clause.public else "private"
-        print(f"{edit.key}: {f'refused by a {kind} clause' if found.counts else 'DOES NOT COUNT'}: {found.what[:200]}")
+        told = f"refused, {found.clause.kind}" if found.counts else "DOES NOT COUNT"
+        print(f"{edit.key}: {told}: {found.what[:200]}")
     by_search = sum(found.counts and found.clause.by_search for _, found in results)
     missed = sum(not found.counts for _, found in results)
     print(f"{crate}: {len(results)} edits, {by_search} refused by a search, {len(results) - by_search - missed} by a proof by hand,",
@@ -297,7 +312,7 @@ def line_of(edit, found, today):
     """The line of an edit; none where it doesn't count. A line that is in force and says the same stays, with its day."""
     if not found.counts:
         return None
-    line = ledger.line_now(edit.key, today, "search" if found.clause.by_search else "hand", "public" if found.clause.public else "private")
+    line = ledger.line_now(edit.key, today, "search" if found.clause.by_search else "hand", found.clause.kind)
     old = ledger.lines().get(edit.key)
     return old if old and old._replace(day=today) == line else line
 
@@ -308,23 +323,18 @@ def seconds():
     return used.ru_utime + used.ru_stime
 
 
-def tried_all(jobs, keys, minutes=None):
+def tried_all(copy, keys, minutes=None):
     """Tries these edits, crate by crate in their order, until the minutes are over; returns whether each that was tried counts."""
     by_crate, until = {}, time.monotonic() + 60 * minutes if minutes else None
     for key in keys:
         ledger.sums_of(key)  # of the sources as they are copied now
         by_crate.setdefault(key.split("/")[0], []).append(ledger.edits()[key])
-    if not keys:
-        return True
-    copy, count = Copy(jobs), True
-    try:
-        for crate, edits in by_crate.items():
-            if until and time.monotonic() > until:
-                break
-            count &= reported(copy, crate, edits)
-    finally:
-        copy.remove()
-        reference_pages.renew_edits()
+    count = True
+    for crate, edits in by_crate.items():
+        if until and time.monotonic() > until:
+            break
+        count &= reported(copy, crate, edits)
+    reference_pages.renew_edits()
     return count
 
 
@@ -340,30 +350,43 @@ def keys_of(words):
 # ---- in the gate
 
 
-def unnamed(log):
-    """The edits of must-fail/ of which the log of rt ci says that something else than a clause refused them, and no line in force
-    says that a clause did."""
+def told_by(log):
+    """(key, what the log of rt ci says of its refusal) for each edit of must-fail/ that waits."""
     told = {f"{crate}/{name}": said for crate, name, said in
             re.findall(r"must-fail (\w+)/(\S+)\.edit: refused, as it must be: (.*)$", pathlib.Path(log).read_text(errors="replace"), re.M)}
-    for key, edit in ledger.edits().items():
-        if edit.path.parent.name == "must-fail" and key in told and ledger.why_it_waits(key):
-            if not clauses_in(edit, told[key])[0]:
-                yield f"wrong: {key}: rt ci names another reason than a clause for its refusal, and no line in force names one"
+    return [(key, told[key]) for key in ledger.waiting() if key in told]
 
 
-def gate(jobs, log):
+def taken_from(log):
+    """Writes the lines of the edits of which the log of rt ci names a clause, and returns the others, of which no line in force says one."""
+    lines, unnamed, today = {}, [], time.strftime("%Y-%m-%d", time.gmtime())
+    for key, said in told_by(log):
+        clauses, _ = clauses_in(ledger.edits()[key], said)
+        if clauses:
+            lines[key] = line_of(ledger.edits()[key], Found(True, clauses[0], ""), today)
+        else:
+            unnamed.append(key)
+    ledger.write(lines)
+    if lines:
+        print(f"edits: of {len(lines)} in must-fail/ that waited rt ci names the clause")
+        reference_pages.renew_edits()
+    return unnamed
+
+
+def gate(copy, log):
     """Tries the edits that wait, and those of two crates that the day draws; returns whether each counts."""
-    minutes, count = float(os.environ.get("MTC_EDIT_MINUTES", MINUTES)), True
+    minutes, count, unnamed = float(os.environ.get("MTC_EDIT_MINUTES", MINUTES)), True, taken_from(log)
     if minutes:
         stale, day = ledger.waiting(), int(time.time()) // (24 * 60 * 60)
         drawn = random.Random(day).sample(edited.with_edits(), DRAWN)
         print(f"edits: {len(stale)} wait, and are tried for {minutes:.0f} minutes; drawn on day {day}: {' '.join(drawn)}", flush=True)
-        count = tried_all(jobs, stale, minutes)
-        count &= tried_all(jobs, keys_of(drawn))
+        count = tried_all(copy, stale, minutes)
+        count &= tried_all(copy, keys_of(drawn))
     else:
         print("left out: edits: none was tried, as MTC_EDIT_MINUTES is 0")
-    wrong = list(unnamed(log))
-    print(*wrong, sep="\n", end="\n" * bool(wrong))
+    wrong = [key for key in unnamed if ledger.why_it_waits(key)]
+    for key in wrong:
+        print(f"wrong: {key}: rt ci names another reason than a clause for its refusal, and no line in force names one")
     return count and not wrong
 
 
@@ -400,11 +423,11 @@ def without_clauses(edit, clauses):
 def idle(copy, edit):
     """Says whether anything needs the private clauses that refuse an edit."""
     crate = edit.crate.name
-    said = copy.prove(crate)
+    copy.prove(crate)
     copy.begin(crate)
     why = edit.applied(copy.folder(crate))
-    clauses, _ = clauses_in(edit, copy.check(crate, named([edit], PROVED.findall(said)))) if not why else ([], None)
-    if not clauses or any(one.public for one in clauses):
+    clauses, _ = clauses_in(edit, copy.check(crate, named([edit]))) if not why else ([], None)
+    if not clauses or any(one.kind != KINDS[2] for one in clauses):
         return why or ("a public clause refuses it" if clauses else "no clause refuses it")
     changed = without_clauses(edit, clauses)
     if not changed:
@@ -422,20 +445,24 @@ def main(words):
     signal.signal(signal.SIGTERM, lambda *_: sys.exit("stopped"))
     jobs = words[1] if words[:1] == ["--jobs"] else ""
     words = words[2 if jobs else 0:]
-    if words[:1] == ["--gate"] and len(words) == 2:
-        return not gate(jobs, words[1])
-    if words[:1] == ["--stale"] and len(words) < 3:
-        return not tried_all(jobs, ledger.waiting(), *map(float, words[1:]))
-    if words[:1] == ["--idle"]:
-        copy = Copy(jobs)
-        try:
+    is_gate, is_proved = words[:1] == ["--gate"] and len(words) == 2, words[:1] == ["--proved"]
+    words = words[is_proved:]
+    copy = Copy(jobs, is_gate or is_proved)
+    try:
+        if is_gate:
+            return not gate(copy, words[1])
+        if words[:1] == ["--stale"] and len(words) < 3:
+            return not tried_all(copy, ledger.waiting(), *map(float, words[1:]))
+        if words[:1] == ["--log"] and len(words) == 2:
+            return bool(taken_from(words[1]))
+        if words[:1] == ["--idle"]:
             for key in keys_of(words[1:]):
                 print(f"{key}: {idle(copy, ledger.edits()[key])}", flush=True)
                 copy.begin(key.split("/")[0])
-        finally:
-            copy.remove()
-        return 0
-    return not tried_all(jobs, keys_of(words) if words else list(ledger.edits()))
+            return 0
+        return not tried_all(copy, keys_of(words) if words else list(ledger.edits()))
+    finally:
+        copy.remove()
 
 
 if __name__ == "__main__":

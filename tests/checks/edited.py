@@ -105,6 +105,23 @@ class Edit:
     def stands_alone(self):
         return None in self.functions
 
+    def names(self):
+        """What a check names the functions that it changes, and those that use a constant that it changes; None for one that isn't clear."""
+        places = [it for it in self.functions if it]
+        for name in self.constants():
+            uses = re.compile(rf"\b{name}\b")
+            places += [Place("", 0, 0, places_of(self.crate, one, file), file, one) for file in self.crate.files
+                       for one in file.functions if not one.is_test and uses.search(file.bare[slice(*one.span[::2])])]
+        return {name_of(self.crate, it) for it in places} or {None}
+
+    def constants(self):
+        """The constants outside of functions that it changes."""
+        for name, old, _ in self.changes:
+            file = next((it for it in self.crate.files if it.path == self.crate.folder / name), None)
+            if file and old in file.text and not self.function_at(name, old):
+                before = list(ITEM.finditer(file.bare, 0, file.text.index("\n", file.text.index(old))))
+                yield from [before[-1][1]] if before else []
+
     def applied(self, folder):
         """Makes the edit below a folder, or says why it can't be made."""
         for file, old, new in self.changes:
@@ -149,6 +166,14 @@ def head_of(file, function):
     """The head of the impl or the trait in which a function stands."""
     spans = [span for span, *_ in file.owners if span[0] <= function.span[0] < span[1]]
     return plain(file.text[spans[0][0]:file.bare.index("{", spans[0][0])]) if spans else ""
+
+
+def name_of(crate, place):
+    """A function as a check names it, or nothing where the sources don't say which of its places is the one."""
+    owner, trait = place.function.owner, re.search(r"\b(\w+)(?:<.*>)? for ", head_of(place.source, place.function))
+    wanted = f"/{owner}{trait[1] if trait else ''}/{place.function.name}" if owner else f"/{place.function.name}"
+    found = [it for it in place.places if f"/{it}".endswith(wanted)]
+    return "::".join([crate.name, *found[0].split("/")]) if len(found) == 1 else None
 
 
 def near(name):

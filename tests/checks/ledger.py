@@ -13,8 +13,9 @@ from .sources import ROOT
 
 LEDGER = EDITS / "tried.txt"
 # What a line says: when the edit was tried, whether a search or a proof by hand refused it, of what kind the clause is, and the sums.
+# Of kind public is a clause of the changed call itself, and called that of a call in it.
 Line = namedtuple("Line", "day way clause sums logic")
-WAYS, CLAUSES = ("search", "hand", "either"), ("public", "private", "-")
+WAYS, CLAUSES = ("search", "hand", "either"), ("public", "called", "private", "-")
 PARTS = Sums("the edit", "the function that it changes", "a definition or a type that it stands on", "the contract of a call in it",
              "its proof by hand")
 IN_THE_WAY = "its functions are laws: their bodies are empty, so that no edit can make one wrong"
