@@ -166,6 +166,10 @@ cp s new
 stand_in '[ "$1" != cosign ] || cat old >s'
 guarded "20 0 *has lost records*" cosign s kept/s subtree
 cp new s
+# It is put back after the command as it was right before: its record is lost, and nothing is released either.
+stand_in "[ \"\$1\" != cosign ] || { cp s put_back; \"$program\" \"\$@\"; cp put_back s; exit; }"
+guarded "20 0 *has no record of what it did*" cosign s kept/s subtree
+same s new "a journal that was put back as it was right before"
 # The stored export is taken away or emptied meanwhile: nothing is released either.
 cp s new
 cp kept/s newest

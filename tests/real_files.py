@@ -31,7 +31,7 @@ CHECKS = [
     (Scene, faults.check_first_append), (Scene, faults.check_tiles_anew), (Scene, faults.check_signals),
     (Scene, kills.check_file_limit), (Folder, limits.check_memory), (Judged, limits.check_inputs), (Folder, limits.check_extensions), (Judged, limits.check_long_entries),
     (Judged, limits.check_many_items),
-    (Scene, disks.check_full), (Scene, disks.check_read_only), (Folder, locks.check_at_once), (Scene, locks.check_readers_at_once),
+    (Scene, disks.check_full), (Scene, disks.check_read_only), (Folder, disks.check_other_disk), (Folder, locks.check_at_once), (Scene, locks.check_readers_at_once),
     (Scene, locks.check_keys_at_once), (Folder, kills.check_kills), (Scene, kills.check_kills_again),
     (Scene, kills.check_first_kills),
 ]

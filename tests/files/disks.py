@@ -6,7 +6,9 @@ import shutil
 import subprocess
 
 from .commands import ASKS, BEGINNING, COMMANDS, COSIGNER, LOG
-from .folder import LeftOut, NOBODY, failed, unlike
+from .folder import LeftOut, NOBODY, ended, failed, unlike
+from .order import opened_before_its_lock
+from .tracing import wants_trace
 
 SIZE, PAGE = 65536, 4096
 
@@ -155,3 +157,21 @@ def check_read_only(scene, _kills):
             scene.own(disk)
             mount("-o", remount, disk)
             yield from (f"{remount}: {line}" for line in read_only(scene, disk))
+
+
+def check_other_disk(folder, _kills):
+    """Where another file system takes the folder's place between the opening of a journal and its lock, with a file of the same number
+    in it, both files stay"""
+    wants_mounts()
+    wants_trace(folder)
+    disk = folder.path / "d"
+    with small_disk(disk):
+        yield from unlike("init-log", folder.run(f"init-log d/j {LOG} 2 9"), (0, "log 32473.1\n", ""))
+        journal, number = (disk / "j").read_bytes(), (disk / "j").stat().st_ino
+        process = opened_before_its_lock(folder, ["issue", "d/j", "r"], "d/j")
+        with small_disk(disk):
+            folder.write("d/j", journal)
+            yield from unlike("the number of its file", (disk / "j").stat().st_ino, number)
+            yield from unlike("issue", ended(process), failed("issue", "d/j"))
+            yield from unlike("the other file", (disk / "j").read_bytes() == journal, True)
+        yield from unlike("the journal", (disk / "j").read_bytes() == journal, True)

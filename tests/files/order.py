@@ -119,13 +119,15 @@ def check_readers_write_nothing(scene, _kills):
             yield from unlike(f"files after {command.name}", scene.changed(), [])
 
 
-def opened_before_its_lock(folder, words):
-    """A command that has opened the journal `j`, and waits a second before it locks it."""
+def opened_before_its_lock(folder, words, file="j", place=1):
+    """A command that has opened a file, and waits a second before it locks it, which is its lock of this number."""
     trace = new_trace(folder)
-    waits = ["strace", "-qq", "-o", trace, "-e", "trace=openat,flock", "-e", "inject=flock:delay_enter=1000000"]
+    waits = ["strace", "-qq", "-o", trace, "-e", "trace=openat,flock", "-e", f"inject=flock:delay_enter=1000000:when={place}"]
     process = folder.start(words, before=waits)
-    while not re.search(r'"j", .* = \d', trace.read_text()) and process.poll() is None:
+    while not re.search(rf'"{file}", .* = \d', trace.read_text()) and process.poll() is None:
         time.sleep(0.01)
+    # A tile file is read before its lock.
+    time.sleep(0.3 * (place > 1))
     return process
 
 
@@ -148,3 +150,10 @@ def check_replaced(folder, _kills):
     yield from unlike("init-log", ended(process), failed("init-log", "j"))
     yield from unlike("both files", (folder.bytes("j"), folder.bytes("empty")), (made, b""))
     yield from unlike("the size", folder.size(), 1)
+    # A tile file is the same one, and has become a journal.
+    (folder.path / "j.tiles").write_bytes(b"")
+    folder.own(folder.path / "j.tiles")
+    process = opened_before_its_lock(folder, ["issue", "j", "r"], "j.tiles", 2)
+    (folder.path / "j.tiles").write_bytes(before)
+    yield from unlike("issue beside it", ended(process), failed("issue", "j.tiles"))
+    yield from unlike("both journals", (folder.bytes("j"), folder.bytes("j.tiles")), (made, before))

@@ -92,6 +92,9 @@ def check_torn_requests(scene):
     yield from refused("not the checkpoint's", day(scene, "cosigner_day.sh", "c", "kept"), 25, "SizeDiffers 3 2")
     yield from differ("held then", held(scene, "c"), (0, []))
     ask(scene, "c", (0, 3), (3, 3))
+    scene.file("c/size", "4\n")
+    yield from refused("another size asked for", day(scene, "cosigner_day.sh", "c", "kept"), 24, "consist is for the size 3, and 4 is asked for")
+    (scene.path / "c/size").unlink()
     yield from differ("a day", day(scene, "cosigner_day.sh", "c", "kept"), (0, b"advanced 3\n", ""))
     yield from differ("its request", (scene.path / "c/signed").read_bytes(), (scene.path / "c/subtree").read_bytes())
     # It advances, and is stopped before it signs: the export says so, and the log asks from there.
