@@ -13,7 +13,7 @@ Usage: tests/documents.py [CHECK ..]      the checks of these names alone
 import sys
 
 import reference_pages
-from checks import citations, house, ledger, named, pages, places, secrets
+from checks import citations, house, ledger, mutants, named, pages, places, secrets
 from checks.sources import ROOT
 
 
@@ -27,11 +27,12 @@ CHECKS = [
     citations.check_names, citations.check_promises, citations.check_meanings, citations.check_architecture,
     citations.check_commands, citations.check_refusals, citations.check_order, places.check_places, check_reference,
     house.check_lengths, house.check_columns, house.check_imports, house.check_comments, house.check_errors, house.check_words, house.check_costs, house.check_scripts,
-    house.check_chain, named.check_libraries, named.check_gated, house.check_edits, ledger.check_ledger, house.check_waiting, secrets.check_secrets,
+    house.check_chain, named.check_libraries, named.check_gated, house.check_edits, ledger.check_ledger, house.check_waiting, mutants.check_mutants,
+    secrets.check_secrets,
 ]
 
 
-REMARKS = {"waiting": ledger.remarks, "costs": house.remarks_of_costs,
+REMARKS = {"waiting": ledger.remarks, "mutants": mutants.remarks, "costs": house.remarks_of_costs,
            "scripts": house.remarks_of_scripts}
 
 
