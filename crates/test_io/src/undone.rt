@@ -9,8 +9,8 @@ use std::os::unix::fs::{FileExt, PermissionsExt};
 use std::rt::Files;
 use std::test::Fail;
 
-// What is asked of an open file: as many bytes as a tile has here, four, are read, bytes are written
-// from an offset on, or it is synced.
+// What is asked of an open file: as many bytes as a tile has here, four, are read, bytes are
+// written from an offset on, or it is synced.
 #[derive(Clone, Copy)]
 enum Step {
     Read(u64),
