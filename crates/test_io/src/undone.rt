@@ -156,23 +156,17 @@ const TILES: [Case; 6] = [
     // What a killed command left after all that was read is cut off before tiles are written there,
     // and the file keeps its length.
     Case {
-        bytes: b"AAAABBBBCCCCDDDDEEEE",
-        steps: &[
-            Step::Read(0),
-            Step::Write(4, b"bbbb"),
-            Step::Write(8, b"cccc"),
-            Step::Sync,
-        ],
+        bytes: b"AAAABBBBCCCC",
+        steps: &[Step::Read(0), Step::Write(4, b"bbbb"), Step::Sync],
         calls: &[
             Call::Read(0, 4),
             Call::Cut(4),
-            Call::Cut(20),
+            Call::Cut(12),
             Call::Write(4, 4),
-            Call::Write(8, 4),
             Call::Sync,
         ],
         failing: None,
-        holds: b"AAAAbbbbcccc\0\0\0\0\0\0\0\0",
+        holds: b"AAAAbbbb\0\0\0\0",
     },
     // What was written since isn't cut off.
     Case {
