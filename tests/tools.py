@@ -11,14 +11,15 @@ import sys
 from functools import partial
 
 from harness import OfLines, program_of, run
-from users import authority, cosigned, cosigners, csr, hours, installed, lists, mirrored, monitors, published, readable, released, stops, tls
+from users import (authority, cosigned, cosigners, csr, hours, installed, lists, mirrored, monitors, published, readable, released, stopped_days,
+                   stops, tls)
 from users.scene import Scene
 
 CHECKS = [csr.check_requests, csr.check_hostile_requests, lists.check_request_lists, published.check_published, published.check_refused_to_publish,
           published.check_proved_by_go, readable.check_entries_to_certs, hours.check_authority_hour,
           *authority.CHECKS, *cosigned.CHECKS, *monitors.CHECKS, *stops.CHECKS, *installed.CHECKS,
           hours.check_cosigner_day, mirrored.check_take_entries,
-          cosigners.check_note, cosigners.check_torn_requests, cosigners.check_mirror_day,
+          cosigners.check_note, cosigners.check_torn_requests, cosigners.check_synced_day, cosigners.check_mirror_day, *stopped_days.CHECKS,
           released.check_units, released.check_container, released.check_machine, released.check_release,
           tls.check_tls]
 

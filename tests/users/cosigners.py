@@ -1,6 +1,7 @@
 """The days of a cosigner and of a mirror whose requests are torn, stopped or not the log's, by tools/cosigner_day.sh, mirror_day.sh and
 check_note.py."""
 
+import os
 import shutil
 
 from .scene import DATES, KEY, LOG, TOOLS, differ, lacks, refused
@@ -113,6 +114,41 @@ def check_torn_requests(scene):
     ask(scene, "c/requests/5", (size, 5), (5, 5))
     yield from differ("the next day", day(scene, "cosigner_day.sh", "c", "kept"), (0, b"advanced 5\n", ""))
     yield from differ("what it signed", held(scene, "c"), (5, [3, 2, 5]))
+
+
+def noting(scene, *tools):
+    """A path on which each call of these tools is noted in the file `calls`."""
+    for tool in tools:
+        path = scene.file(f"bin_note/{tool}", f'#!/bin/bash\necho "{tool} $*" >>"{scene.path}/calls"\nexec "{shutil.which(tool)}" "$@"\n')
+        path.chmod(0o755)
+    return {"PATH": f"{scene.path}/bin_note:{os.environ['PATH']}"}
+
+
+def unsynced(calls):
+    """Renames of files of which the bytes weren't synced before, or after which something else comes than a sync of their folder."""
+    calls = [[word for word in line.split() if not word.startswith("-")] for line in calls]
+    for place, (tool, *words) in enumerate(calls):
+        if tool != "mv":
+            continue
+        source, target = words
+        folder = os.path.dirname(target) or "."
+        if source.endswith(".new") and not any(call[0] == "sync" and source in call for call in calls[:place]):
+            yield f"mv {source} {target}: {source} isn't synced before"
+        following = calls[place + 1] if place + 1 < len(calls) else ["the end"]
+        if following[0] != "sync" or folder not in following:
+            yield f"mv {source} {target}: then comes {' '.join(following)}"
+
+
+def check_synced_day(scene):
+    """cosigner_day syncs a file before it gets its name, and its folder after that, before anything else"""
+    lacks("openssl", "flock")
+    prepare(scene, "c", 2)
+    (scene.path / "c/verifier").unlink()
+    ask(scene, "c", (0, 3), (3, 3))
+    yield from differ("a day", day(scene, "cosigner_day.sh", "c", "kept", env=noting(scene, "mv", "sync", "rm")), (0, b"advanced 3\n", ""))
+    calls = (scene.path / "calls").read_text().splitlines()
+    yield from unsynced(calls)
+    yield from differ("some files got names", sum(line.startswith("mv ") for line in calls) > 2, True)
 
 
 def check_mirror_day(scene):

@@ -146,14 +146,16 @@ def failing(scene, tool, word):
 
 
 def killing(scene, place, after, real):
-    """A path on which the command with this number, counted over all, is the last one that runs, or the last that doesn't."""
-    folder = scene.path / "bin_kill"
+    """A path on which the command with this number, counted over all, is the last one that runs, or the last that doesn't. Each command
+    takes the first number that is free, also where several begin at once."""
+    folder, counted = scene.path / "bin_kill", scene.path / "counted"
     folder.mkdir(exist_ok=True)
-    scene.file("count", "0\n")
+    shutil.rmtree(counted, ignore_errors=True)
+    counted.mkdir()
     for tool in real:
         target = scene.program if tool == "mtc" else shutil.which(tool)
         run = f'"{target}" "$@"; ' if after else ""
-        text = (f'#!/bin/bash\nread -r n <"{scene.path}/count"; echo $((n + 1)) >"{scene.path}/count"\n'
+        text = (f'#!/bin/bash\nset -C\nn=0\nuntil {{ : >"{counted}/$n"; }} 2>/dev/null; do n=$((n + 1)); done\nset +C\n'
                 f'[ "$n" -ne {place} ] || {{ {run}kill -9 0; }}\nexec "{target}" "$@"\n')
         (folder / tool).write_text(text)
         (folder / tool).chmod(0o755)
