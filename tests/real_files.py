@@ -26,7 +26,7 @@ CHECKS = [
     (Scene, names.check_no_journal), (Scene, names.check_long_names), (Folder, locks.check_modes),
     (Scene, locks.check_no_modes), (Scene, locks.check_others), (Scene, locks.check_owners_readers), (Scene, streams.check_streams), (Scene, streams.check_lines),
     (Scene, streams.check_readers), (Judged, streams.check_pipes), (Scene, streams.check_no_files),
-    (Scene, order.check_order), (Scene, order.check_readers_write_nothing), (Folder, order.check_tail), (Folder, order.check_replaced),
+    (Scene, order.check_order), (Scene, order.check_readers_write_nothing), (Scene, order.check_frames), (Folder, order.check_tail), (Folder, order.check_replaced),
     (Scene, faults.check_faults), (Scene, faults.check_no_sync), (Scene, faults.check_append), (Scene, faults.check_undoing),
     (Scene, faults.check_first_append), (Scene, faults.check_tiles_anew), (Scene, faults.check_signals),
     (Scene, kills.check_file_limit), (Folder, limits.check_memory), (Judged, limits.check_inputs), (Folder, limits.check_extensions), (Judged, limits.check_long_entries),

@@ -5,7 +5,7 @@ import re
 import shutil
 import time
 
-from .commands import ASKING, COMMANDS, HEADER
+from .commands import ASKING, COMMANDS, HEADER, WITH_TILES
 from .folder import NEW_LOG, ended, failed, unlike
 from .tracing import PIECE, TAIL, appending, new_trace, opening, read_trace, tail_calls, traced, wants_trace
 
@@ -117,6 +117,23 @@ def check_readers_write_nothing(scene, _kills):
             wanted = (0, [], True, int(missing and bool(command.tiles)))
             yield from unlike(command.name, (status, written, opened == news, len(news)), wanted)
             yield from unlike(f"files after {command.name}", scene.changed(), [])
+
+
+# The bytes that 64 tiles take in memory, and the commands on a log or a mirror that ask for no node of its tree.
+FRAMES = 64 * 8192
+WITHOUT_NODES = {"issue", "issue-list", "landmark", "landmarks", "switch", "entries", "entries-from", "mirror-take", "mirror-entries"}
+
+
+def check_frames(scene, _kills):
+    """A command on a log or a mirror that asks for no node takes no memory for 64 tiles, and each other one does, once"""
+    wants_trace(scene)
+    for command in WITH_TILES:
+        scene.restore()
+        trace = new_trace(scene)
+        status, _, _ = scene.run(command.words, before=["strace", "-qq", "-o", trace, "-e", "trace=mmap"])
+        sizes = [int(size) for size in re.findall(r"^mmap\(NULL, (\d+), .*MAP_ANONYMOUS", trace.read_text(), re.M)]
+        taken = sum(FRAMES <= size < FRAMES + 2 * PIECE for size in sizes)
+        yield from unlike(command.name, (status, taken), (0, int(command.name not in WITHOUT_NODES)))
 
 
 def opened_before_its_lock(folder, words, file="j", place=1):
