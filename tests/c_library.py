@@ -148,9 +148,14 @@ def wrong_interface(library, shared):
     said, number = library.calls.mtc_abi(), header_number("MTC_ABI")
     if said != number:
         yield f"mtc_abi: {said} in place of {number}"
-    names = re.findall(r"SONAME\s+(\S+)", subprocess.run(["objdump", "-p", shared], capture_output=True, text=True).stdout)
+    parts = subprocess.run(["objdump", "-p", shared], capture_output=True, text=True).stdout
+    names = re.findall(r"SONAME\s+(\S+)", parts)
     if names != [f"libmtc.so.{number}"] or os.readlink(shared) != names[0]:
         yield f"{names}, and a link to {os.readlink(shared)}"
+    # DF_BIND_NOW: what the library needs of others is looked for when it is loaded.
+    flags = re.search(r"^ *FLAGS +0x([0-9a-f]+)$", parts, re.M)
+    if not flags or not int(flags[1], 16) & 8:
+        yield "its names aren't bound when it is loaded"
 
 
 def wrong_names(library, names):
@@ -289,9 +294,8 @@ def report(what, wrong, note=""):
     return bool(wrong)
 
 
-def wrong_in_threads(library, folder, archive, table):
-    """How verdicts differ that are found in threads of little stack. One of them may end the process."""
-    ended, lines = programs.in_threads(folder, archive, table)
+def wrong_in_threads(library, ended, lines, table):
+    """How verdicts differ that were found in threads of little stack. One of them may have ended the process."""
     alone = [" ".join(str(getattr(verdict, name)) for name, _ in Verdict._fields_) for verdict in (library.judge(*row) for row in table)]
     if (ended, len(lines)) != (0, len(table)):
         yield f"status {ended} after {len(lines)} of {len(table)}"
@@ -398,8 +402,10 @@ def main(words):
         long = list(largest.rows(header_number("MTC_MAX_CERTIFICATE")))
         wrong = [one for row in long for one in wrong_row(library, names, row)]
         status |= report("the verdicts on the largest certificates", wrong, f": of {', '.join(str(len(row[0])) for row in long)} bytes")
-        wrong = list(wrong_in_threads(library, folder, archive, [*long, *table]))
-        status |= report(f"threads of {header_number('MTC_STACK')} bytes of stack judge all rows and these", wrong)
+        ended, lines = programs.in_threads(folder, archive, [*long, *table])
+        wrong = list(wrong_in_threads(library, ended, lines[:-1], [*long, *table]))
+        status |= report(f"threads of {header_number('MTC_STACK')} bytes of stack judge all rows and these", wrong,
+                         f": at most {lines[-1:]} bytes of it were used")
         status |= report("null pointers", list(programs.wrong_nulls(folder, archive)))
         status |= check_programs(library, folder, archive, shared, table)
         status |= report("the library is made twice, byte for byte", list(wrong_twice(folder, archive, shared)))

@@ -78,7 +78,8 @@ def wrong_nulls(folder, archive):
 
 
 def in_threads(folder, archive, rows):
-    """The verdicts on rows, each found in a thread with no more stack than the header says: lines of numbers."""
+    """The verdicts on rows, each found in a thread with no more stack than the header says: lines of numbers, and a last one of how much
+    of the stack was used."""
     program = compiled(HERE / "rows.c", folder / "rows", archive, "-pthread")
     text = b"".join(len(cert).to_bytes(8, sys.byteorder) + cert + len(known).to_bytes(8, sys.byteorder) + known
                     + now.to_bytes(8, sys.byteorder, signed=True) for cert, known, now in rows)
