@@ -1,12 +1,13 @@
 """Standard streams that fail, readers that go away, and files that are no plain ones."""
 
+import fcntl
 import hashlib
 import os
 import shlex
 import stat
 
 from .commands import ADVANCE, COMMANDS, COSIGNER, COSIGNER_BEGINS, HEADER, LOG, SIGN, Scene, added, named_with, records
-from .folder import ROOT, failed, unlike
+from .folder import ROOT, ended, failed, unlike
 
 # More than a pipe holds.
 LONG, PIPE = 1000, 65536
@@ -95,8 +96,23 @@ def signed_often(count):
     return HEADER + b"".join(b"\1" + len(body).to_bytes(4, "big") + body for body in bodies) + b"\0"
 
 
+def into_full_pipe(scene, words):
+    """How a command ends that writes into a pipe of one page that doesn't block, and whose reader comes late; and what the pipe took."""
+    reader, writer = os.pipe()
+    fcntl.fcntl(writer, fcntl.F_SETPIPE_SZ, 4096)
+    os.set_blocking(writer, False)
+    process = scene.start(words.split(), stdout=writer)
+    os.close(writer)
+    process.wait()
+    with open(reader, "rb") as pipe:
+        text = pipe.read()
+    status, _, err = ended(process)
+    return status, err, text
+
+
 def check_readers(scene, _kills):
-    """A reader that goes away in the middle of a long output is status 6 and no signal, and the journal stays as it was"""
+    """A reader that goes away in the middle of a long output, or a pipe that doesn't block and is full, is status 6 and no signal, and
+    the journal stays as it was"""
     scene.long_log(LONG, "long")
     scene.write("often", signed_often(LONG))
     for words in (f"entries long {LONG}", "export often"):
@@ -105,6 +121,8 @@ def check_readers(scene, _kills):
         yield from unlike(f"{words} is longer than a pipe", len(whole) > PIPE, True)
         text, ending = left_by_its_reader(scene, words)
         yield from unlike(words, (text == whole[:100], ending), (True, (6, f"mtc: {name}: OutputFailed\n")))
+        status, err, text = into_full_pipe(scene, words)
+        yield from unlike(f"{words} into a full pipe", (status, err, whole.startswith(text)), (6, f"mtc: {name}: OutputFailed\n", True))
         yield from unlike(f"the journal after {words}", scene.bytes(journal) == before, True)
     records_of_export = scene.said("export often")[10 + 62:]
     reported = b"".join(len(body).to_bytes(4, "big") + body for body in records(scene.bytes("often"))[1:])
