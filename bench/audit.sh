@@ -9,31 +9,11 @@
 # the cosigner holds. Needs python3, GNU time and openssl. Not part of the gate.
 # Usage: bench/audit.sh [--write] [MOST]   with --write the figures go into bench/audit/figures.txt, and the ratios into
 # ratios.txt. Logs of more than MOST entries are left out, and lists of more than 64 times MOST bytes
-# The variable PROGRAM names another program than that of ./mtc.
-set -eu
-root=$(cd "$(dirname "$0")/.." && pwd)
-work=$(mktemp -d)
-trap 'rm -rf "$work"' EXIT
 # shellcheck source=bench/program.sh
-. "$root/bench/program.sh"
-
-write=
-if [ "${1-}" = --write ]; then
-    write=1
-    shift
-fi
+. "$(dirname "$0")/program.sh"
 most=${1:-16777216}
-[ -n "${PROGRAM-}" ] || "$root/mtc" member "$root/examples/first.member" >/dev/null || exit 70
-program=${PROGRAM:-$root/crates/mtc_main/out/mtc_main}
+need_program
 cd "$work"
-
-# Prints a row, and keeps it: what was measured, of what, and the command with its status.
-row() {
-    local what=$1 of=$2
-    shift 2
-    least_of_five "$@" >least
-    printf '%s|%s|%s\n' "$what" "$of" "$(cat least)" | tee -a figures
-}
 
 # Prints the row of the program's own hash over the blocks of so many entries, and keeps it.
 own_hash() {
@@ -109,7 +89,5 @@ sys.stdout.buffer.write(item * (int(sys.argv[1]) // len(item)))' "$size" >entrie
 done
 ratios "\`audit\`, $(grouped "$largest") entries" "$audit" "$largest"
 [ -z "$items" ] || ratios "\`audit\`, $(grouped "$items") of the shortest items" "$of_shortest" "$items"
-if [ -n "$write" ]; then
-    keep_figures audit "WORK|OF|SECONDS|MEMORY" <figures
-    keep_figures audit "WORK|AGAINST|RATIOS" ratios <against
-fi
+keep_figures audit "WORK|OF|SECONDS|MEMORY" <figures
+keep_figures audit "WORK|AGAINST|RATIOS" ratios <against

@@ -9,15 +9,10 @@
 # Needs python3, and GNU time or one of these. Not part of the gate.
 # Usage: bench/commands.sh [--instructions] [--write] [ENTRIES]   with --write the figures go into bench/commands/figures.txt or
 #        instructions.txt
-# The variable PROGRAM names another program than that of ./mtc.
-set -eu
-root=$(cd "$(dirname "$0")/.." && pwd)
-work=$(mktemp -d)
-trap 'rm -rf "$work"' EXIT
 # shellcheck source=bench/program.sh
-. "$root/bench/program.sh"
+. "$(dirname "$0")/program.sh"
 
-write='' what=times
+what='times'
 while [[ ${1-} == --* ]]; do
     case $1 in
         --instructions) what=instructions ;;
@@ -26,11 +21,10 @@ while [[ ${1-} == --* ]]; do
     esac
     shift
 done
-[ -n "${PROGRAM-}" ] || "$root/mtc" member "$root/examples/first.member" >/dev/null || exit 70
-program=${PROGRAM:-$root/crates/mtc_main/out/mtc_main}
+need_program
 python3 -B "$root/bench/commands/time_commands.py" "$what" "$program" "$work" "${1-1048576}" | tee "$work/figures"
-if [ -n "$write" ] && [ "$what" = times ]; then
+if [ "$what" = times ]; then
     keep_figures commands "WORK|OF|SECONDS|MEMORY" <"$work/figures"
-elif [ -n "$write" ]; then
+else
     keep_figures commands "WORK|OF|INSTRUCTIONS" instructions <"$work/figures"
 fi

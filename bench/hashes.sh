@@ -3,13 +3,8 @@
 # same loops in C over OpenSSL, where gcc and OpenSSL's headers are there, and else against `openssl speed`.
 # Three runs, one after the other. Times are processor times of one thread.
 # Usage: bench/hashes.sh [--write]   with --write the ratios go into bench/hashes/figures.txt, if the peer is in C
-set -eu
-root=$(cd "$(dirname "$0")/.." && pwd)
-work=$(mktemp -d)
-trap 'rm -rf "$work"' EXIT
-
 # shellcheck source=bench/program.sh
-. "$root/bench/program.sh"
+. "$(dirname "$0")/program.sh"
 build_and_run hashes tree_core anyhow
 
 peer="OpenSSL in C"

@@ -8,23 +8,12 @@
 # one sync a batch of 1, 10, 100 or 700 entries, at the last size, and no certificate. Needs python3, openssl and, for syncs, strace.
 # Not part of the gate.
 # Usage: bench/issuing.sh [--write] [ENTRIES ..]   with --write the figures go into bench/issuing/figures.txt
-# The variables PROGRAM and ROUNDS say another program than that of ./mtc, and of how many rounds the median counts (5)
-set -eu
-root=$(cd "$(dirname "$0")/.." && pwd)
-work=$(mktemp -d)
-trap 'rm -rf "$work"' EXIT
+# The variable ROUNDS says of how many rounds the median counts (5)
 # shellcheck source=bench/program.sh
-. "$root/bench/program.sh"
-
-write=
-if [ "${1-}" = --write ]; then
-    write=1
-    shift
-fi
+. "$(dirname "$0")/program.sh"
 [ $# -gt 0 ] || set -- 1000 100000 1048576
 rounds=${ROUNDS:-5}
-[ -n "${PROGRAM-}" ] || "$root/mtc" member "$root/examples/first.member" >/dev/null || exit 70
-program=${PROGRAM:-$root/crates/mtc_main/out/mtc_main}
+need_program
 
 for count; do
     rm -f "$work"/journal*
@@ -34,18 +23,10 @@ done | tee "$work/figures"
 rm -f "$work"/journal*
 python3 -B "$root/bench/issuing/time_runs.py" openssl "$work" "$rounds" | tee -a "$work/figures"
 
-packages=/usr/share/gocode/src/golang.org/x/mod
-if ! command -v go >/dev/null || [ ! -d "$packages/sumdb/tlog" ]; then
-    echo "left out: issuing: Go or its sumdb/tlog isn't here" >&2
-else
-    mkdir -p "$work/peer/tlog"
-    cp "$packages/sumdb/tlog/"{tlog,tile,note}.go "$work/peer/tlog/"
-    cp "$root/bench/issuing/peer.go" "$work/peer/"
-    printf 'module peer\n\ngo 1.19\n' >"$work/peer/go.mod"
-    (cd "$work/peer" && GOFLAGS=-mod=mod GO111MODULE=on GOPROXY=off GOCACHE="$work/cache" go run . "$work" "$rounds" "${@: -1}") >"$work/appended"
+if go_peer issuing "$work" "$rounds" "${@: -1}" >"$work/appended"; then
     awk '{ printf "tlog'"'"'s `StoredHashes` into a file|a batch of %d, at %s entries|%.4f|%.4f|%.4f in 1\n", $2, $1, $3, $4, $5 }' \
         "$work/appended" | tee -a "$work/figures"
+else
+    echo "left out: issuing: Go or its sumdb/tlog isn't here" >&2
 fi
-if [ -n "$write" ]; then
-    keep_figures issuing "WORK|OF|SECONDS|CLOCK|SYNCS" <"$work/figures"
-fi
+keep_figures issuing "WORK|OF|SECONDS|CLOCK|SYNCS" <"$work/figures"

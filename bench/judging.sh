@@ -5,16 +5,9 @@
 # Times are processor times, so that no wait for a disk is in them. Needs python3. Not part of the
 # gate.
 # Usage: bench/judging.sh [--write]   with --write the ratios go into bench/judging/figures.txt
-# The variable PROGRAM names another program than that of ./mtc.
-set -eu
-root=$(cd "$(dirname "$0")/.." && pwd)
-work=$(mktemp -d)
-trap 'rm -rf "$work"' EXIT
 # shellcheck source=bench/program.sh
-. "$root/bench/program.sh"
-
-[ -n "${PROGRAM-}" ] || "$root/mtc" member "$root/examples/first.member" >/dev/null || exit 70
-program=${PROGRAM:-$root/crates/mtc_main/out/mtc_main}
+. "$(dirname "$0")/program.sh"
+need_program
 python3 -B "$root/bench/judging/make_files.py" "$program" "$work"
 build_and_run judging relying_party policy_core tree_core sha2 hex anyhow <"$work/line"
 
@@ -32,6 +25,4 @@ awk -v against="as many bare hashes of \`sha2\`" -v blocks="$(cut -d ' ' -f 4 "$
         printf "judging a certificate with three cosignatures|%s|%.2f\n", against, least["judge"] / (blocks * least["bare"])
         printf "`cosign` on a real file|%s|%.2f\n", against, least["cosign"] / (key * least["bare"])
     }' "$work/printed" "$work/commands" | tee "$work/figures"
-if [ "${1-}" = --write ]; then
-    keep_figures judging "WORK|AGAINST|RATIOS" <"$work/figures"
-fi
+keep_figures judging "WORK|AGAINST|RATIOS" <"$work/figures"

@@ -6,33 +6,13 @@
 # time. Not part of the gate.
 # Usage: bench/monitor.sh [--write] [MOST]   with --write the figures go into bench/monitor/figures.txt. Logs of more than MOST
 # entries are left out, and lists of more than 64 times MOST bytes
-# The variable PROGRAM names another program than that of ./mtc.
-set -eu
-root=$(cd "$(dirname "$0")/.." && pwd)
-work=$(mktemp -d)
-trap 'rm -rf "$work"' EXIT
 # shellcheck source=bench/program.sh
-. "$root/bench/program.sh"
-
-write=
-if [ "${1-}" = --write ]; then
-    write=1
-    shift
-fi
+. "$(dirname "$0")/program.sh"
 most=${1:-16777216}
-[ -n "${PROGRAM-}" ] || "$root/mtc" member "$root/examples/first.member" >/dev/null || exit 70
-program=${PROGRAM:-$root/crates/mtc_main/out/mtc_main}
+need_program
 cd "$work"
 "$program" monitor-init 32473.1 >state
 for n in $(seq 1000); do echo "d$n.example.org"; done >watch
-
-# Prints a row, and keeps it: what was measured, of what, and the command.
-row() {
-    local what=$1 of=$2
-    shift 2
-    least_of_five 0 "$@" >least
-    printf '%s|%s|%s\n' "$what" "$of" "$(cat least)" | tee -a figures
-}
 
 # The request to hold all entries of a file, with the root that the program computes.
 request_of() {
@@ -52,27 +32,25 @@ for count in 1024 10000 100000 1048576; do
     python3 "$root/bench/log/make_journal.py" "$count" journal
     "$program" consist journal 0 "$count" >request
     "$program" entries-from journal 0 "$count" >entries
-    row "$watched" "$count entries" "$program" monitor state watch request entries
+    row "$watched" "$count entries" 0 "$program" monitor state watch request entries
     [ "$(wc -l <found)" = 1 ] || { echo "wrong: $count entries: $(head -n 1 found)"; exit 1; }
-    row "$hashed" "$count entries" "$program" root entries
+    row "$hashed" "$count entries" 0 "$program" root entries
     [ "$(head -n 1 found)" = "size $count" ] || { echo "wrong: $count entries: $(cat found)"; exit 1; }
 done
 for size in 1048576 16777216 67108864; do
     [ "$size" -le $((most * 64)) ] || continue
     head -c "$size" /dev/zero >entries
     request_of entries >request
-    row "$shortest" "$size bytes" "$program" monitor state watch request entries
+    row "$shortest" "$size bytes" 0 "$program" monitor state watch request entries
     [ "$(wc -l <found)" = $((size / 4 + 1)) ] || { echo "wrong: $size bytes: $(wc -l <found) lines"; exit 1; }
-    row "$shortest_hashed" "$size bytes" "$program" root entries
+    row "$shortest_hashed" "$size bytes" 0 "$program" root entries
     [ "$(head -n 1 found)" = "size $((size / 4))" ] || { echo "wrong: $size bytes: $(cat found)"; exit 1; }
 done
 for size in 1048576 16777216; do
     [ "$size" -le $((most * 64)) ] || continue
     python3 "$root/bench/monitor/make_names.py" "$size" entries
     request_of entries >request
-    row "$names" "$(stat -c %s entries) bytes" "$program" monitor state watch request entries
+    row "$names" "$(stat -c %s entries) bytes" 0 "$program" monitor state watch request entries
     [ "$(wc -l <found)" = 1 ] || { echo "wrong: $size bytes of names: $(head -n 1 found)"; exit 1; }
 done
-if [ -n "$write" ]; then
-    keep_figures monitor "WORK|OF|SECONDS|MEMORY" <figures
-fi
+keep_figures monitor "WORK|OF|SECONDS|MEMORY" <figures

@@ -18,9 +18,23 @@ figures() {
     done
 }
 
+# What opening a log of 1,048,576 entries takes against hashing its journal once, in the same form.
+openings() {
+    figures log | awk -F '|' '
+        $2 ~ /^reading and hashing/ { hashed[$3] = $4 }
+        $2 ~ /^opening a log( with tiles)?, processor time$/ && $3 ~ /^1048576 / { opened[++count] = $0 }
+        END {
+            for (at = 1; at <= count; at++) {
+                split(opened[at], part, "|")
+                sub(/, processor time/, "", part[2])
+                printf "log|%s, 1,048,576 entries|reading and hashing its journal once, by openssl|%.2f|%s\n", part[2], part[4] / hashed[part[3]], part[6]
+            }
+        }'
+}
+
 # Lines SCRIPT|WORK|AGAINST|LOW|HIGH|as it is shown|DAY, of lines SCRIPT|WORK|AGAINST|RATIO ..|DAY.
 ranges() {
-    figures hashes signatures judging proofs opening audit/ratios quarrel | awk -F '|' '
+    { figures hashes signatures judging proofs && openings && figures audit/ratios quarrel; } | awk -F '|' '
         function shown(ratio) { return ratio < 1000 ? ratio : sprintf("%d,000", ratio / 1000 + 0.5) }
         {
             count = split($4, ratio, " ")

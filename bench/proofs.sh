@@ -8,13 +8,8 @@
 # rows of `rebuilt-`. Times are processor times of one thread. Beside them stands the same work by Go's package sumdb/tlog,
 # where it is installed (Debian's golang-go and golang-golang-x-mod-dev): it too keeps the hash of each full subtree, and it
 # reads tiles that are in memory. Usage: bench/proofs.sh [--write]   with --write the figures go into bench/proofs/figures.txt
-set -eu
-root=$(cd "$(dirname "$0")/.." && pwd)
-work=$(mktemp -d)
-trap 'rm -rf "$work"' EXIT
-
 # shellcheck source=bench/program.sh
-. "$root/bench/program.sh"
+. "$(dirname "$0")/program.sh"
 build_and_run proofs tile_store frame_pool disk_core tree_cache tree_proofs tree_core mtc_io anyhow
 report() {
     grep -E '^[a-z]+(-[0-9]+)? [0-9]+ [0-9]+$' "$1" >"$work/lines"
@@ -24,17 +19,11 @@ report() {
 }
 report "$work/printed"
 
-packages=/usr/share/gocode/src/golang.org/x/mod
-if ! command -v go >/dev/null || [ ! -d "$packages/sumdb/tlog" ]; then
+if ! GOMAXPROCS=1 go_peer proofs >"$work/peer.txt"; then
     echo "no peer: Go and its package sumdb/tlog aren't installed"
     exit 0
 fi
-mkdir -p "$work/peer/tlog"
-cp "$packages/sumdb/tlog/"{tlog,tile,note}.go "$work/peer/tlog/"
-printf 'module peer\n\ngo 1.19\n' > "$work/peer/go.mod"
-cp "$root/bench/proofs/peer.go" "$work/peer/main.go"
 echo "Go's sumdb/tlog"
-(cd "$work/peer" && GOFLAGS=-mod=mod GO111MODULE=on GOPROXY=off GOCACHE="$work/cache" GOMAXPROCS=1 go run . > "$work/peer.txt")
 report "$work/peer.txt"
 
 # The ratios of processor times.
@@ -49,6 +38,4 @@ awk '
         print "making a path of 1,048,576 leaves|sumdb/tlog in Go|" ratio("path-1048576")
         print "making a path of 1,048,575 leaves|sumdb/tlog in Go|" ratio("path-1048575")
     }' "$work/peer.txt" "$work/printed" > "$work/figures"
-if [ "${1-}" = --write ]; then
-    keep_figures proofs "WORK|AGAINST|RATIOS" < "$work/figures"
-fi
+keep_figures proofs "WORK|AGAINST|RATIOS" < "$work/figures"

@@ -6,16 +6,9 @@
 # count, since work can only be held up. Of one run the processor seconds, the least of five, and the most memory held are printed.
 # An export in which signatures are in conflict can't be had. Needs python3 and GNU time. Not part of the gate.
 # Usage: bench/quarrel.sh [--write]   with --write the ratio goes into bench/quarrel/figures.txt
-# The variable PROGRAM names another program than that of ./mtc.
-set -eu
-root=$(cd "$(dirname "$0")/.." && pwd)
-work=$(mktemp -d)
-trap 'rm -rf "$work"' EXIT
 # shellcheck source=bench/program.sh
-. "$root/bench/program.sh"
-
-[ -n "${PROGRAM-}" ] || "$root/mtc" member "$root/examples/first.member" >/dev/null || exit 70
-program=${PROGRAM:-$root/crates/mtc_main/out/mtc_main}
+. "$(dirname "$0")/program.sh"
+need_program
 python3 -B "$root/bench/quarrel/make_journal.py" "$work/journal"
 (cd "$work" && "$program" export journal >"export" && least_of_five 0 "$program" quarrel export >least)
 echo "\`quarrel\`, $(stat -c %s "$work/export") bytes: $(tr '|' ' ' <"$work/least")" >&2
@@ -27,14 +20,12 @@ build_and_run quarrel sha2 anyhow <"$work/line"
 for _ in 1 2; do
     run_again quarrel <"$work/line" >>"$work/printed"
 done
-for _ in 1 2 3; do
-    python3 -B "$root/bench/quarrel/time_runs.py" "$program" "$work" 98
-done >"$work/runs_of_quarrel"
+# shellcheck disable=SC2016
+(cd "$work" && ROUNDS=3 least_of_five 0 bash -c 'for _ in $(seq 98); do "$0" quarrel export || exit; done' "$program") |
+    awk -F '|' '{ printf "quarrel %.0f\n", $1 * 1e9 }' >"$work/runs_of_quarrel"
 
 awk '
     !($1 in least) || $2 < least[$1] { least[$1] = $2 }
     END { printf "`quarrel` of 1,024 signatures with proofs of 20 hashes|hashing the openings once|%.2f\n", least["quarrel"] / least["bare"] }
     ' "$work/printed" "$work/runs_of_quarrel" | tee "$work/figures"
-if [ "${1-}" = --write ]; then
-    keep_figures quarrel "WORK|AGAINST|RATIOS" <"$work/figures"
-fi
+keep_figures quarrel "WORK|AGAINST|RATIOS" <"$work/figures"

@@ -5,13 +5,8 @@
 # against BouncyCastle, where java and its jar are there (BCPROV names it, or /usr/share/java has it).
 # Times are processor times of one thread.
 # Usage: bench/signatures.sh [--write]   with --write the ratios go into bench/signatures/figures.txt
-set -eu
-root=$(cd "$(dirname "$0")/.." && pwd)
-work=$(mktemp -d)
-trap 'rm -rf "$work"' EXIT
-
 # shellcheck source=bench/program.sh
-. "$root/bench/program.sh"
+. "$(dirname "$0")/program.sh"
 build_and_run signatures hss_core sha2 hex anyhow
 
 # The same loops in C.
@@ -61,6 +56,4 @@ awk '
             print key "|" substr(kept[key], 2) > figures
     }' figures="$work/figures" "$work/printed" "$work/c" "$work/java"
 
-if [ "${1-}" = --write ]; then
-    keep_figures signatures "WORK|AGAINST|RATIOS" < "$work/figures"
-fi
+keep_figures signatures "WORK|AGAINST|RATIOS" < "$work/figures"

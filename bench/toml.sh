@@ -5,34 +5,19 @@
 # of the gate.
 # Usage: bench/toml.sh [--write] [MOST]   with --write the figures go into bench/toml/figures.txt. Files of more than MOST bytes are
 # left out (else the largest has 16,777,216, and takes a quarter of an hour)
-# The variable PROGRAM names another program than that of ./mtc.
-set -eu
-root=$(cd "$(dirname "$0")/.." && pwd)
-work=$(mktemp -d)
-trap 'rm -rf "$work"' EXIT
 # shellcheck source=bench/program.sh
-. "$root/bench/program.sh"
-
-write=
-if [ "${1-}" = --write ]; then
-    write=1
-    shift
-fi
+. "$(dirname "$0")/program.sh"
 most=${1:-16777216}
-[ -n "${PROGRAM-}" ] || "$root/mtc" member "$root/examples/first.member" >/dev/null || exit 70
-program=${PROGRAM:-$root/crates/mtc_main/out/mtc_main}
+need_program
 
 # One kind of file, of some sizes: kind, what a page calls it, sizes.
 measure() {
-    local kind=$1 name=$2 size seconds held
+    local kind=$1 name=$2 size
     shift 2
     for size; do
         [ "$size" -le "$most" ] || continue
         python3 "$root/bench/toml/make_file.py" "$kind" "$size" "$work/store"
-        least_of_five 2 "$program" verify "$root/examples/www.cert" "$work/store" 1767225600 >"$work/least"
-        IFS='|' read -r seconds held <"$work/least"
-        printf 'reading a store: %s|%s bytes|%s|%s\n' "$name" "$(stat -c %s "$work/store")" "$seconds" "$held" |
-            tee -a "$work/figures"
+        row "reading a store: $name" "$(stat -c %s "$work/store") bytes" 2 "$program" verify "$root/examples/www.cert" "$work/store" 1767225600
     done
 }
 
@@ -47,6 +32,4 @@ for stack in 256 512 1024 1536 2048 3072 4096 8192; do
     echo "$(stat -c %s "$work/store") bytes of 6,559 nested tables, with $stack KiB of stack: status $status"
     [ "$status" -ne 2 ] || break
 done
-if [ -n "$write" ]; then
-    keep_figures toml "WORK|OF|SECONDS|MEMORY" <"$work/figures"
-fi
+keep_figures toml "WORK|OF|SECONDS|MEMORY" <"$work/figures"

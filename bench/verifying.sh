@@ -5,15 +5,9 @@
 # rounds. Needs python3, openssl with its headers, and a C compiler. Not part of the gate.
 # Usage: bench/verifying.sh [--write]   with --write the figures go into bench/verifying/figures.txt
 # The variable PROGRAM names another program than that of ./mtc; LIBRARY a folder with libmtc.a in place of what tools/c_library.sh makes
-set -eu
-root=$(cd "$(dirname "$0")/.." && pwd)
-work=$(mktemp -d)
-trap 'rm -rf "$work"' EXIT
 # shellcheck source=bench/program.sh
-. "$root/bench/program.sh"
-
-[ -n "${PROGRAM-}" ] || "$root/mtc" member "$root/examples/first.member" >/dev/null || exit 70
-program=${PROGRAM:-$root/crates/mtc_main/out/mtc_main}
+. "$(dirname "$0")/program.sh"
+need_program
 [ -n "${LIBRARY-}" ] || "$root/tools/c_library.sh" "$work"
 cc -O2 -I "$root/include" -o "$work/peer" "$root/bench/verifying/peer.c" "${LIBRARY:-$work}/libmtc.a" -lcrypto
 python3 -B "$root/bench/verifying/make_files.py" "$program" "$work" >"$work/words"
@@ -24,6 +18,4 @@ awk '
     $1 ~ "/" { split($1, by, "/"); work = "judging by the C library"; of = "1 certificate with " by[1] " cosignatures of width " by[2] }
     $1 !~ "^[0-9]+(/|$)" { work = "OpenSSL, `X509_verify_cert`"; of = "1 chain of two certificates, " $1 }
     { sub(/1 cosignatures/, "1 cosignature", of); printf "%s|%s|%.7f||\n", work, of, $2 / 1e9 }' "$work/took" | tee "$work/figures"
-if [ "${1-}" = --write ]; then
-    keep_figures verifying "WORK|OF|SECONDS|CLOCK|SYNCS" <"$work/figures"
-fi
+keep_figures verifying "WORK|OF|SECONDS|CLOCK|SYNCS" <"$work/figures"

@@ -7,14 +7,14 @@ of a cosigner that has signed each entry of the log alone, so that no one-time k
 import base64
 import hashlib
 import shutil
-import struct
 import sys
 from pathlib import Path
 
 sys.path.insert(0, str(Path(__file__).resolve().parents[2] / "tests"))
-from cosigned_log import COSIGNERS, FIRST, CosignedLog  # noqa: E402
-from cosignatures import tree_hash  # noqa: E402
-from full_cosigner import advance, hashed, levels_of, sign, write_journal  # noqa: E402
+from cosigned_log import COSIGNERS, FIRST, CosignedLog, secret_of  # noqa: E402
+from full_cosigner import journal_of, sign  # noqa: E402
+from reference import entry, hss, proof  # noqa: E402
+from reference.cosigner import Advance, advance_body  # noqa: E402
 
 SIZE, INDEX = 1024, 1000
 IDS = [bytes.fromhex(f"81fd590{number}") for number in (2, 3, 4)]
@@ -32,20 +32,15 @@ def verify_blocks(key, message, cosignature):
     tree = key[12:28]
     number, randomizer = signature[:4], signature[8:40]
     digest = hashlib.sha256(tree + number + b"\x81\x81" + randomizer + message).digest()
-    digits = [digit for byte in digest for digit in (byte >> 4, byte & 15)]
-    checksum = sum(15 - digit for digit in digits) << 4
-    digits += [checksum >> 12 & 15, checksum >> 8 & 15, checksum >> 4 & 15]
-    steps = sum(15 - digit for digit in digits)
+    steps = sum(15 - digit for digit in hss.digits(digest, 4, 67, 4))
     return blocks(54 + len(message)) + steps + blocks(22 + 67 * 32) + blocks(54) + 10 * blocks(86)
 
 
 def judge_blocks(log, keys):
     """The blocks of the judgement: of the signatures, of the key and the entry, and of the path."""
-    root = tree_hash(log.entries)
-    both = struct.pack(">QQ", 0, SIZE)
-    signed = [b"mtc-subtree/v1\n\0\4" + one + b"\4" + LOG_ID + both + root for one in IDS]
+    signed = [proof.signed_bytes(one, LOG_ID, 0, SIZE, log.leaves.hash(0, SIZE)) for one in IDS]
     verified = sum(map(verify_blocks, keys, signed, log.signatures))
-    return verified + blocks(91) + blocks(1 + len(log.entries[INDEX])) + 10 * blocks(65)
+    return verified + blocks(91) + blocks(1 + len(entry.items(log.text)[INDEX][0])) + 10 * blocks(65)
 
 
 def main():
@@ -53,16 +48,15 @@ def main():
     log = CosignedLog(program, SIZE)
     keys = [base64.b64decode(key) for key in log.keys]
     cert, store = log.cert(INDEX, b"".join(log.signatures)), log.store(2)
-    (folder / "line").write_text(f"{cert.hex()} {store.hex()} {FIRST} {judge_blocks(log, keys)}\n")
+    (folder / "line").write_text(f"{cert.hex()} {store.encode().hex()} {FIRST} {judge_blocks(log, keys)}\n")
     for name in ("advance", "subtree"):
         shutil.copy(log.path / name, folder / name)
-    secret = hashlib.sha384(COSIGNERS[0].encode()).digest()
-    for name, text in (("c", cert), ("store", store), ("secret", secret)):
+    secret, held = secret_of(COSIGNERS[0]), advance_body(Advance(SIZE, log.leaves.hash(0, SIZE), []))
+    full = journal_of(secret, [held, *(sign(log.leaves, number, number) for number in range(SIZE))])
+    for name, text in (("c", cert), ("store", store.encode()), ("secret", secret), ("full", full)):
         (folder / name).write_bytes(text)
-    levels = levels_of([hashed(b"\0", entry) for entry in log.entries])
-    signs = [sign(levels, number, number) for number in range(SIZE)]
-    write_journal(folder / "full", secret, [advance(levels), *signs])
-    shutil.rmtree(log.path)
+        (folder / name).chmod(0o600)
+    log.close()
 
 
 if __name__ == "__main__":

@@ -185,7 +185,7 @@ def warnings_of_scripts():
     """(script, what) for each warning of shellcheck on the shell scripts."""
     scripts = [path for path in tracked() if path.suffix in ("", ".sh") and re.match(rb"#!/bin/(ba)?sh\b", path.read_bytes()[:12])]
     if shutil.which("shellcheck"):
-        said = subprocess.run(["shellcheck", "-S", "warning", "-f", "gcc", *scripts], cwd=ROOT, capture_output=True, text=True, check=False).stdout
+        said = subprocess.run(["shellcheck", "-x", "-S", "warning", "-f", "gcc", *scripts], cwd=ROOT, capture_output=True, text=True, check=False).stdout
         yield from ((line.split(":")[0].removeprefix(f"{ROOT}/"), line) for line in said.split("\n") if line)
 
 
