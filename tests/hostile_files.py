@@ -22,9 +22,9 @@ from functools import partial
 from multiprocessing import Pool
 from pathlib import Path
 
+from harness import program_of
 from hostile import cuts, judgements, requests, rows, single_bytes
 
-ROOT = Path(__file__).resolve().parent.parent
 # How much is shown of a file that is judged otherwise.
 SHOWN = 2000
 KINDS = rows.KINDS + single_bytes.KINDS + cuts.KINDS + judgements.KINDS + requests.KINDS
@@ -82,12 +82,9 @@ def compared(program, wanted, said, case):
 
 
 def main(words):
-    if not words and subprocess.run([ROOT / "mtc", "member", ROOT / "examples/first.member"],
-                                    stdout=subprocess.DEVNULL).returncode:
-        return 70
+    program, status = program_of(words), 0
     # A cosigner's journal is its owner's alone.
     os.umask(0o077)
-    program, status = os.path.abspath(words[0] if words else ROOT / "crates/mtc_main/out/mtc_main"), 0
     with Pool() as pool:
         for kind, wanted, said in KINDS:
             reported = pool.starmap(compared, [(program, wanted, said, case) for case in kind()], 16)

@@ -13,12 +13,12 @@ import os
 import shutil
 import subprocess
 import sys
-from pathlib import Path
 
 from files.commands import LOG, Scene
 from files.disks import fill, mount, mounted, small_disk, wants_mounts
 from files.folder import ROOT, LeftOut, failed, locked, unlike
 from files.tracing import wants_trace
+from harness import program_of
 
 SCRIPT = ROOT / "tools/why_failed.sh"
 TOO_LONG = "n" * 250
@@ -198,10 +198,7 @@ def told(scene, name, lines):
 
 
 def main(words):
-    program = Path(words[0]).resolve() if words else ROOT / "crates/mtc_main/out/mtc_main"
-    if not words and subprocess.run([ROOT / "mtc", "member", ROOT / "examples/first.member"], stdout=subprocess.DEVNULL).returncode:
-        return 70
-    scene = Scene(program)
+    scene = Scene(program_of(words))
     found = [told(scene, f"{case[0]:.40}: {case[3]}", check_case(scene, *case)) for case in CASES]
     found += [told(scene, check.__doc__, check(scene)) for check in (check_locks, check_limit, check_nothing)]
     shutil.rmtree(scene.path)

@@ -94,86 +94,31 @@ def said(run, label, *change):
     return found(run, label, with_byte(label, *change))
 
 
-def certificates():
-    """each byte of a certificate is each of sixteen values, or of all with MTC_ALL=1"""
-    return cases("certificate")
+def of_file(label, says):
+    """The kind of case of one file, with what its line says."""
+    def kind():
+        return cases(label)
+
+    kind.__doc__ = says
+    return kind
 
 
-def stores():
-    """the same of a store"""
-    return cases("store")
-
-
-def exports():
-    """the same of an export"""
-    return cases("export")
-
-
-def entries_files():
-    """the same of an entries file"""
-    return cases("entries")
-
-
-def journals():
-    """the same of the journal of a cosigner that is to advance"""
-    return cases("journal")
-
-
-def requests():
-    """the same of a request to advance, with the journal that is left"""
-    return cases("request")
-
-
-def logs():
-    """the same of the journal of a log, with the files that are left"""
-    return cases("log")
-
-
-def batches():
-    """the same of the journal of a log with several entries in one record"""
-    return cases("batches")
-
-
-def exports_of_two():
-    """the same of an export of a key of two levels"""
-    return cases("export-of-two")
-
-
-def journals_of_two():
-    """the same of the journal of its cosigner, which is to advance"""
-    return cases("journal-of-two")
-
-
-def children():
-    """the same of its journal when it is to make its first lower tree"""
-    return cases("child")
-
-
-def mirrors():
-    """the same of the journal of a mirror of which entries are asked"""
-    return cases("mirror")
-
-
-def taking():
-    """the same when it is to take one more"""
-    return cases("mirror-take")
-
-
-def lists():
-    """the same of the list from which it takes it"""
-    return cases("mirror-list")
-
-
-def mirror_advances():
-    """the same of its journal when a cosigner is to advance by it"""
-    return cases("mirror-advance")
-
-
-def mirror_cosigners():
-    """the same of the journal of that cosigner"""
-    return cases("mirror-cosigner")
-
-
-OF_MIRRORS = [mirrors, taking, lists, mirror_advances, mirror_cosigners]
-OF_ONE_LEVEL = [certificates, stores, exports, entries_files, requests, journals, logs]
-KINDS = [(kind, wanted, said) for kind in (*OF_ONE_LEVEL, batches, exports_of_two, journals_of_two, children, *OF_MIRRORS)]
+SAYS = {
+    "certificate": "each byte of a certificate is each of sixteen values, or of all with MTC_ALL=1",
+    "store": "the same of a store",
+    "export": "the same of an export",
+    "entries": "the same of an entries file",
+    "journal": "the same of the journal of a cosigner that is to advance",
+    "request": "the same of a request to advance, with the journal that is left",
+    "log": "the same of the journal of a log, with the files that are left",
+    "batches": "the same of the journal of a log with several entries in one record",
+    "export-of-two": "the same of an export of a key of two levels",
+    "journal-of-two": "the same of the journal of its cosigner, which is to advance",
+    "child": "the same of its journal when it is to make its first lower tree",
+    "mirror": "the same of the journal of a mirror of which entries are asked",
+    "mirror-take": "the same when it is to take one more",
+    "mirror-list": "the same of the list from which it takes it",
+    "mirror-advance": "the same of its journal when a cosigner is to advance by it",
+    "mirror-cosigner": "the same of the journal of that cosigner",
+}
+KINDS = [(of_file(label, says), wanted, said) for label, says in SAYS.items()]
