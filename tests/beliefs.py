@@ -14,20 +14,25 @@ from checks.citations import below
 from checks.definitions import TOKEN, declared, imports_of, module_of, sign_of
 from checks.sources import CLAUSE, FUNCTION, ROOT, after_braces, after_head, crates
 
-# The sources in which they stand.
-SOURCES = (*sorted((ROOT / "crates" / "mtc_top" / "src").rglob("*.rt")),
-           *(ROOT / "crates" / "mtc_laws" / "src" / name for name in ("laws.rt", "mirrors.rt")))
-# Each statement: what its table is headed by, the functions whose contracts it is, and its page of definitions. First the
-# record that `run` ensures with the laws of each run, then the laws of executions, those of what is printed, and those of mirrors.
-RUNS = ("The statement names", r"run|law_runs_\w+", ("mtc_top.specs.Run", "mtc_laws.specs.RunLaws"))
+# The sources in which they stand: the crate of `run`, and those of its laws.
+OF_LAWS = ("mtc_laws",)
+SOURCES = [path for crate in ("mtc_top", *OF_LAWS) for path in sorted((ROOT / "crates" / crate / "src").rglob("*.rt"))]
+# Each statement: what its table is headed by, the functions whose contracts it is, and its pages of definitions. First the
+# record that `run` ensures with the laws of each run, and then the other laws by what they are of.
 LAWS = "mtc_laws.specs.{}Laws"
-PRINTED = tuple(map(LAWS.format, ("Export", "Audit", "Print", "Status")))
-PRINTS = ("The laws of what is printed name", r"law_(?:exports|audits|printed|misread_files)_\w+", PRINTED)
-LINKED = ("mtc_top.specs.Executions", *map(LAWS.format, ("Execution", "Room", "Tile")))
-EXECUTIONS = ("The laws of executions name", r"law_(?:executions|entries|journals|no|recovered|released|tiles)_\w+", LINKED)
+RUNS = ("The statement names", r"run|law_runs_(?:are|may_lose)_\w+", ("mtc_top.specs.Run", LAWS.format("Run")))
+EXECUTIONS = ("The laws of executions name",
+              r"law_(?:executions|entries|journals|killed|no|recovered|released|runs_may_be|tiles)_\w+",
+              ("mtc_top.specs.Executions", "mtc_laws.specs.Killed", *map(LAWS.format, ("Execution", "Room", "Tile"))))
+PRINTS = ("The laws of what is printed name",
+          r"law_(?:exports|audits|misread_files|monitors|printed_(?:texts|signatures)|recorded|two)_\w+",
+          ("mtc_laws.specs.RecordedTwice",
+           *map(LAWS.format, ("Export", "Audit", "Count", "Monitor", "Print", "Quarrel", "Status"))))
+CERTIFICATES = ("The laws of certificates name", r"law_(?:certificate|certificates|issued|listed)_\w+",
+                tuple(map(LAWS.format, ("Cert", "Acceptance", "List", "Pem"))))
 MIRRORS = ("The laws of mirrors name", r"law_(?:cosigners|mirrors|misread_tiles|taken)_\w+",
            ("mtc_laws.specs.MirrorAgreement", *map(LAWS.format, ("Mirror", "Taken"))))
-STATEMENTS = (RUNS, EXECUTIONS, PRINTS, MIRRORS)
+STATEMENTS = (RUNS, EXECUTIONS, PRINTS, CERTIFICATES, MIRRORS)
 
 # The contracts are generic: what they say of a file system, a device, a stream and a hash function is what these traits ensure.
 TRAITS = ("mtc_room/src/room.rt", "disk_core/src/disk.rt", "mtc_io/src/source.rt", "mtc_io/src/sink.rt", "tree_core/src/hashing.rt")
@@ -275,6 +280,7 @@ PARTS = (
     ("The promise as a whole", "The list of the promise, and where it ends.", promise_rows),
     ("The laws of executions", "What they name themselves.", lambda: first_rows(EXECUTIONS)),
     ("The laws of what is printed", "What they name themselves.", lambda: first_rows(PRINTS)),
+    ("The laws of certificates", "What they name themselves.", lambda: first_rows(CERTIFICATES)),
     ("The laws of mirrors", "What they name themselves.", lambda: first_rows(MIRRORS)),
     ("Words of the kit", "The definitions of the kit that count.", kit_rows),
     ("Edits by crate", "Wrong programs that are refused, or wait for their try. The columns count the edits of a crate that the search for proofs "
@@ -336,7 +342,7 @@ def summary():
     """The first table of BELIEFS: how much each statement rests on."""
     rows = ["| Statement | Definitions that it names | Lines | With all below them | Lines |", "|---|---|---|---|---|"]
     named = (("the contract of `run`, and the laws of each run", RUNS), ("the laws of executions", EXECUTIONS),
-             ("the laws of what is printed", PRINTS), ("the laws of mirrors", MIRRORS))
+             ("the laws of what is printed", PRINTS), ("the laws of certificates", CERTIFICATES), ("the laws of mirrors", MIRRORS))
     rows += [summary_row(name, named_first(statement), own_of(statement)) for name, statement in named]
     rows.insert(3, summary_row("the promise as a whole", named_by(WHOLE), promise()[0]))
     all_own = reached(all_named())[0]
@@ -344,7 +350,18 @@ def summary():
                       f"The program whose contracts these are has {code_lines():,} lines of code."])
 
 
+def uncounted():
+    """The laws that are no part of a statement, or of two: then this count would leave them out, or be of the wrong table."""
+    patterns = [re.compile(functions) for functions in (WHOLE, *(functions for _, functions, _ in STATEMENTS))]
+    for path in (path for crate in OF_LAWS for path in sorted((ROOT / "crates" / crate / "src").rglob("*.rt"))):
+        for name in re.findall(r"^pub fn (law_\w+)", path.read_text(), re.M):
+            count = sum(bool(pattern.fullmatch(name)) for pattern in patterns)
+            if count != 1:
+                yield f"{path.relative_to(ROOT)}: tests/beliefs.py counts {name} in {count} statements, and not in one"
+
+
 def faults():
+    yield from uncounted()
     own, types, _, _ = promise()
     if counted(own, types) > MOST:
         yield f"the promise as a whole rests on {counted(own, types)} definitions and types of its level, and may on {MOST}"
