@@ -15,15 +15,9 @@ class Collision(Exception):
     """Two strings have one hash; which ones is left open."""
 
 
-def root_of(items):
-    """The tree hash of these items' entries."""
-    entries = [text for text, _ in items]
-    return merkle.List(entries).hash(0, len(entries)) if entries else merkle.NO_ENTRIES
-
-
 def same_list(start, end, wanted, items):
     """That the items of an interval are there, and have the wanted hash."""
-    found = root_of(items[start:end])
+    found = merkle.root(items[start:end])
     if len(items) < end or found != wanted:
         raise Foreign(wanted, found)
 

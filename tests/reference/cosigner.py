@@ -1,5 +1,6 @@
 """Requests to a cosigner, the records of its journal, and its export, by the sections of docs/FORMATS.md on them."""
 
+from functools import lru_cache
 from typing import NamedTuple
 
 from . import journal, merkle
@@ -57,21 +58,27 @@ class State(NamedTuple):
 
 
 class Opened(NamedTuple):
-    """The log of a cosigner, its key, and the state that its records lead to."""
+    """The log of a cosigner, its key, the state that its records lead to, its own id, and of what its private key is made: the
+    heights of its trees, the typecode of its one-time signatures, and the secret."""
 
     log: bytes
     key: Key
     state: State
+    id: bytes
+    heights: tuple
+    ots: int
+    secret: bytes
 
 
 class Export(NamedTuple):
-    """The ids of a cosigner and of its log, its public key, its steps, and the state after them."""
+    """The ids of a cosigner and of its log, its public key, its steps, the state after them, and what the key says of trees."""
 
     cosigner: bytes
     log: bytes
     key: bytes
     steps: list
     state: State
+    trees: Key
 
 
 class Refusal(Fault):
@@ -110,6 +117,11 @@ def request(text, read):
 def advance_request(text):
     """What a request asks a cosigner to hold."""
     return request(text, advance_at)
+
+
+def sign_request(text):
+    """What a request asks a cosigner to sign, which has no number of a one-time key."""
+    return request(text, lambda cursor: sign_at(cursor, None))
 
 
 def step(body):
@@ -204,7 +216,7 @@ def export(text):
     while cursor.place < cursor.end:
         found, state = record(cursor.vector(4), state, trees, len(steps) + 1)
         steps.append(found)
-    return Export(cosigner, log, key, steps, state)
+    return Export(cosigner, log, key, steps, state, trees)
 
 
 def advance_body(asked):
@@ -219,10 +231,27 @@ def sign_body(asked):
     return bytes([SIGN]) + asked.number.to_bytes(4, "big") + place + asked.node + len(hashes).to_bytes(2, "big") + hashes
 
 
+def type_of(height):
+    """The typecode of a tree of this height."""
+    return next(code for code, known in LMS.items() if known == height)
+
+
 def child_body(number, lower):
     """The body of the record of a lower tree of this height."""
-    typecode = next(code for code, height in LMS.items() if height == lower)
-    return bytes([CHILD]) + number.to_bytes(4, "big") + typecode.to_bytes(4, "big")
+    return bytes([CHILD]) + number.to_bytes(4, "big") + type_of(lower).to_bytes(4, "big")
+
+
+def settings_body(id, log, heights, ots, secret):
+    """The body of the first record, of a key with a level for each of these heights."""
+    types = b"".join(code.to_bytes(4, "big") for code in (*map(type_of, heights), ots))
+    ids = b"".join(bytes([len(one)]) + one for one in (id, log))
+    return bytes([COSIGNER if len(heights) == 1 else COSIGNER_2]) + ids + types + secret
+
+
+def exported(held, key, steps):
+    """The export of a cosigner with this public key and the bodies of these records."""
+    ids = b"".join(bytes([len(one)]) + one for one in (held.id, held.log))
+    return ids + len(key).to_bytes(2, "big") + key + b"".join(len(body).to_bytes(4, "big") + body for body in steps)
 
 
 def settings(body):
@@ -231,16 +260,16 @@ def settings(body):
     tag = cursor.number(1)
     if tag not in (COSIGNER, COSIGNER_2):
         raise Fault("WrongTag")
-    _, log = id_at(cursor), id_at(cursor)
+    id, log = id_at(cursor), id_at(cursor)
     types = [cursor.number(4) for _ in range(1 if tag == COSIGNER else 2)]
     ots = cursor.number(4)
-    cursor.bytes(SECRET)
+    secret = cursor.bytes(SECRET)
     close(cursor)
-    heights = [LMS.get(lms) for lms in types]
+    heights = tuple(LMS.get(lms) for lms in types)
     if any(height not in HEIGHTS for height in heights) or ots not in LMOTS:
         raise Fault("BadType")
     lower = heights[1] if len(heights) == 2 else None
-    return Opened(log, Key(len(heights), heights[0]), NEW._replace(lower=lower))
+    return Opened(log, Key(len(heights), heights[0]), NEW._replace(lower=lower), id, heights, ots, secret)
 
 
 def folded(text, started, following):
@@ -260,6 +289,7 @@ def folded(text, started, following):
     return state
 
 
+@lru_cache(maxsize=64)
 def opened(text):
     """The cosigner of a journal."""
     found, count = None, 0
@@ -285,6 +315,26 @@ def advanced(held, asked_log, asked):
         raise Refusal("NotNewer", held.state.size)
     if not leads_to(held.state, asked):
         raise Refusal("BadProof")
+
+
+def has_key(held):
+    """That a one-time key of a cosigner is left that may sign; else the refusal of its state."""
+    if held.state.signed == one_time_keys(held.key, held.state):
+        is_last = held.key.levels == 1 or held.state.children == 1 << held.key.height
+        raise Refusal("Exhausted" if is_last else "NeedsChild")
+
+
+def signed(held, asked_log, asked):
+    """That a cosigner may sign what it is asked to; else the refusal of its state."""
+    if asked_log != held.log:
+        raise Refusal("WrongLog")
+    if not merkle.is_subtree(asked.start, asked.end):
+        raise Refusal("BadSubtree")
+    if asked.end > held.state.size:
+        raise Refusal("Beyond", held.state.size)
+    if not is_part(held.state, asked):
+        raise Refusal("BadProof")
+    has_key(held)
 
 
 def next_child(held):

@@ -1,6 +1,7 @@
 """Entries of a log and the files of them, by docs/FORMATS.md, "Entries"."""
 
 import hashlib
+from functools import lru_cache
 
 from . import certificate
 from .der import BIT_STRING, INTEGER, OCTET_STRING, SEQUENCE, Fields, encoded
@@ -28,7 +29,8 @@ def certificate_of(index, text, key, algorithm, proof):
 
 
 def fields_of(text):
-    """Reads the fields after the type of an entry of type 1: the algorithm of its key, if it has it, and the key's hash."""
+    """Reads the fields after the type of an entry of type 1: the algorithm of its key, if it has it, the key's hash, and its
+    names."""
     fields = Fields(text, 2, len(text))
     for read in (certificate.version, certificate.name, certificate.validity, certificate.name):
         read(fields)
@@ -36,11 +38,12 @@ def fields_of(text):
     key_hash = fields.next(OCTET_STRING).contents
     if len(key_hash) != HASH:
         raise Fault("BadHashLength")
-    certificate.extensions(fields)
+    _, found = certificate.extensions(fields)
     fields.close()
-    return named, key_hash
+    return named, key_hash, [name for one in found for name in one.names]
 
 
+@lru_cache(maxsize=4096)
 def key_in(text):
     """What an entry of type 1 has of its key; none where the bytes are no such entry."""
     try:
@@ -66,12 +69,13 @@ def is_public_key(text):
     return True
 
 
+@lru_cache(maxsize=4096)
 def fits(text, key):
     """Whether this key may stand beside an entry: its own beside one of type 1, and none beside all others."""
     wanted = key_in(text)
     if wanted is None:
         return not key
-    named, key_hash = wanted
+    named, key_hash, _ = wanted
     if not is_public_key(key) or hashlib.sha256(key).digest() != key_hash:
         return False
     return named in (b"", certificate.key_algorithm(key))
@@ -86,3 +90,8 @@ def items(text):
             raise Fault("BadItem", len(found))
         found.append(item)
     return found
+
+
+def written(items):
+    """The entries file of these items."""
+    return b"".join(len(part).to_bytes(2, "big") + part for item in items for part in item)

@@ -1,6 +1,7 @@
 """The records of a log's journal, by docs/FORMATS.md, "The journal of a log": its entries, or the first record that breaks the
 rules."""
 
+from functools import lru_cache
 from typing import NamedTuple
 
 from . import entry
@@ -13,13 +14,14 @@ NULL = bytes(2)
 
 
 class State(NamedTuple):
-    """The id of a log, the limit of its entries, these with their keys, the last sizes of a landmark and of its tiles, and
-    from where on its entries name algorithms."""
+    """The id of a log, how many landmarks may be active, the limit of its entries, these with their keys, the sizes at its
+    landmarks, the last size of its tiles, and from where on its entries name algorithms."""
 
     id: bytes
+    active: int
     limit: int
     items: list
-    marked: int
+    marks: list
     tiled: int
     switched: int | None
 
@@ -40,7 +42,7 @@ def started(cursor):
     id, active, limit = id_at(cursor), cursor.number(4), cursor.number(4)
     if not 1 <= active <= MOST_ACTIVE or not 2 <= limit <= MOST_ENTRIES:
         raise Fault("BadSettings")
-    return State(id, limit, [(NULL, b"")], 0, 0, None)
+    return State(id, active, limit, [(NULL, b"")], [], 0, None)
 
 
 def with_item(state, cursor):
@@ -61,9 +63,9 @@ def following(state, cursor):
             after = with_item(after, cursor)
     elif tag in (LANDMARK, TILES):
         size = cursor.number(8)
-        is_next = size == state.size > state.marked, size % TILE == 0 and state.tiled < size <= state.size
+        is_next = size == state.size > max(state.marks, default=0), size % TILE == 0 and state.tiled < size <= state.size
         fits = is_next[tag - LANDMARK]
-        after = state._replace(marked=size) if tag == LANDMARK else state._replace(tiled=size)
+        after = state._replace(marks=[*state.marks, size]) if tag == LANDMARK else state._replace(tiled=size)
     elif tag == SWITCH:
         size = cursor.number(8)
         fits = state.switched is None and size == state.size
@@ -75,6 +77,7 @@ def following(state, cursor):
     return after
 
 
+@lru_cache(maxsize=64)
 def opened(text):
     """The log of a journal."""
     return folded(text, started, following)
@@ -107,3 +110,8 @@ def switch_body(size):
 def landmark_body(size):
     """The body of the record of a landmark."""
     return bytes([LANDMARK]) + size.to_bytes(8, "big")
+
+
+def tiles_body(size):
+    """The body of the record of a size of tiles."""
+    return bytes([TILES]) + size.to_bytes(8, "big")

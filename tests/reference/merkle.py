@@ -1,6 +1,7 @@
 """Merkle trees over SHA-256 (RFC 9162, section 2.1), their subtrees and proofs, by docs/FORMATS.md, "Tree hash"."""
 
 import hashlib
+from functools import lru_cache
 
 from .fault import Fault
 
@@ -117,3 +118,28 @@ class List:
         if split <= start:
             return [*self.proof(start, end, split, last, known), self.hash(first, split)]
         return [*self.proof(split, end, split, last, False), self.hash(first, split)]
+
+
+@lru_cache(maxsize=64)
+def kept(entries):
+    return List(entries)
+
+
+def of(items):
+    """The list of the entries of items, each of which has a key beside it."""
+    return kept(tuple(text for text, _ in items))
+
+
+def root(items):
+    """The tree hash of the entries of items (2.1.1)."""
+    return of(items).hash(0, len(items)) if items else NO_ENTRIES
+
+
+def cover(start, end):
+    """The subtrees that cover the entries from `start` up to `end`, one or two (the draft, arbitrary intervals)."""
+    if end - start == 1:
+        return [(start, end)]
+    last = end - 1
+    below = (1 << (start ^ last).bit_length() - 1) - 1
+    middle = last & ~below
+    return [(start & ~((1 << (~start & below).bit_length()) - 1), middle), (middle, end)]

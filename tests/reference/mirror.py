@@ -1,12 +1,13 @@
 """The records of a mirror's journal, by docs/FORMATS.md, "The journal of a mirror", and what its commands do over its items, by
 docs/COMMANDS.md."""
 
+from functools import lru_cache
 from typing import NamedTuple
 
 from . import entry, journal, merkle
-from .cosigner import Advance, Refusal, Sign, folded, id_at, one_time_keys
+from .cosigner import Advance, Refusal, Sign, folded, has_key, id_at
 from .fault import Fault
-from .log import TILE, TILES, batch_body as log_batch, short
+from .log import TILE, TILES, batch_body as log_batch, short, tiles_body
 
 MIRROR, BATCH = 0x21, 0x22
 MOST_ITEM, MOST_ITEMS = 65_535, 1 << 32
@@ -53,6 +54,7 @@ def following(state, cursor):
     return after
 
 
+@lru_cache(maxsize=64)
 def opened(text):
     """The mirror of a journal."""
     return folded(text, started, following)
@@ -66,11 +68,6 @@ def mirror_body(id):
 def batch_body(items):
     """The body of the record of items."""
     return bytes([BATCH]) + log_batch(items)[1:]
-
-
-def tiles_body(size):
-    """The body of the record of a size of tiles."""
-    return bytes([TILES]) + size.to_bytes(8, "big")
 
 
 def new_items(held, items):
@@ -102,7 +99,7 @@ def taken(held, items):
 
 def own_list(held, state):
     """The list of the items' entries; where a cosigner with this state doesn't hold its first entries, that is refused."""
-    log, mine = merkle.List([text for text, _ in held.items]), min(state.size, held.size)
+    log, mine = merkle.of(held.items), min(state.size, held.size)
     own = log.hash(0, mine) if mine else merkle.NO_ENTRIES
     if state.size > held.size or own != state.root:
         raise Refusal("NotMine", f"{state.root.hex()} {own.hex()}")
@@ -130,7 +127,5 @@ def sign(held, signer, start, end):
         raise Refusal("Beyond", state.size)
     if signer.log != held.id:
         raise Refusal("WrongLog")
-    if state.signed == one_time_keys(signer.key, state):
-        is_last = signer.key.levels == 1 or state.children == 1 << signer.key.height
-        raise Refusal("Exhausted" if is_last else "NeedsChild")
+    has_key(signer)
     return Sign(state.signed, start, end, log.hash(start, end), log.proof(start, end, 0, state.size))
