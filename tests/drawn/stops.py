@@ -1,0 +1,170 @@
+"""Commands that are stopped at a call of the system, or of which a call fails; and power cuts then.
+
+A stopped command has printed a prefix of what it prints, and nothing before its record is there. Its files are as before, as
+after it, or as between its writes. At a power cut each byte that was written after the last sync of its file, and that is another
+one than before, may be any; the journal then has the old records, or these and the new one.
+"""
+
+import re
+import shutil
+import subprocess
+
+from files.tracing import tail_pages
+from reference import journal
+from reference.fault import Fault
+from reference.tiles import BYTES
+
+from .world import Wrong, plain, shown
+
+CALLS, KILLED = "pwrite64,fsync,ftruncate,write", -9
+ERRORS = {"fsync": "EIO", "pwrite64": "ENOSPC"}
+# Of the calls of each kind so many are drawn from, but of the pieces in which a journal's end is written again.
+MOST = {"fsync": 8, "write": 3, "pwrite64": 4}
+# The place of the first commit byte.
+FIRST = len(journal.HEADER)
+
+
+def can_trace():
+    probe = ["strace", "-qq", "-o", "/dev/null", "true"]
+    return bool(shutil.which("strace")) and subprocess.run(probe, capture_output=True).returncode == 0
+
+
+def drawn(draws, length, fails):
+    """A call at which a command over a journal of so many bytes is stopped, or that fails, as strace is asked for it."""
+    call = draws.choice(sorted(ERRORS) if fails else sorted(MOST))
+    place = draws.randrange(MOST[call])
+    if call == "pwrite64" and draws.random() < 0.8:
+        # One of the writes after those of the journal's end.
+        place += len(tail_pages(length))
+    how = f"error={ERRORS[call]}" if fails else "signal=KILL"
+    return f"{call}:{how}:when={place + 1}"
+
+
+def under_trace(world, fault):
+    """The words before a command that is to meet a fault."""
+    return ["strace", "-qq", "-y", "-o", world.path / "trace", "-e", f"trace={CALLS}", "-e", f"inject={fault}"]
+
+
+def unsynced(world):
+    """By file the places, as starts and ends, that were written after its last sync, by the trace of a command."""
+    found = {}
+    for line in (world.path / "trace").read_text(errors="replace").splitlines():
+        write = re.match(r"pwrite64\(\d+<(.*?)>.*, (\d+), (\d+)\) += (\d+)$", line)
+        sync = re.match(r"fsync\(\d+<(.*?)>\) += 0$", line)
+        if write:
+            found.setdefault(write[1].split("/")[-1], []).append((int(write[3]), int(write[3]) + int(write[2])))
+        elif sync:
+            found.pop(sync[1].split("/")[-1], None)
+    return found
+
+
+def counted(text):
+    """The bytes of a journal that mean something, up to the closed commit byte; all of another file."""
+    try:
+        return text[:journal.end_of(text) + 1]
+    except Fault:
+        return text
+
+
+def is_between(name, before, after, now):
+    """Whether a file may hold this that a command changes from one text to another."""
+    if None in (now, after):
+        return now == before
+    if not name.endswith(".tiles"):
+        # A new journal is empty at first, and then its first commit byte is closed.
+        return counted(now) in ([counted(before), counted(after)] if before is not None else [b"", journal.HEADER + b"\0", after])
+    # Some tiles are written, and what followed them is there still, or is cut off, or zeros.
+    old = before or b""
+    return any(now[:end] == after[:end] and (now[end:] == old[end:] or not any(now[end:])) for end in range(0, len(after) + 1, BYTES))
+
+
+def check_files(world, found, room):
+    """That each file is as before a command, as after it, or as between its writes; whether all are as after it."""
+    before, after = world.files(), plain(room)
+    for name in sorted(before.keys() | after.keys() | found.keys()):
+        now, old, new = found.get(name), before.get(name), after.get(name)
+        if now not in (old, new) and not is_between(name, old, new, now):
+            raise Wrong(f"leaves {name} as {shown(now)}, between {shown(old)} and {shown(new)}")
+    return found.keys() == after.keys() and all(counted(found[name]) == counted(after[name]) for name in found)
+
+
+def check(world, words, said, wanted, room):
+    """That a stopped command has printed no more than it may, and left what it may; then its files are those in memory."""
+    (_, out, err), found = said, world.on_disk()
+    is_done = check_files(world, found, room)
+    if not (wanted[1].startswith(out) and wanted[2].startswith(err)) or out and not is_done:
+        raise Wrong(f"has printed {shown((out, err))} when it was stopped, of {shown(wanted)}; done: {is_done}")
+    take(world, found)
+
+
+def check_failed(world, words, said, wanted, room):
+    """The same of a command of which a call failed: it names one of its files."""
+    lines = [f"mtc: {words[0]}: {name}: Failed\n".encode() for word in words[1:3] for name in (word, f"{word}.tiles")]
+    if said[:2] != (5, b"") or said[2] not in lines:
+        raise Wrong(f"answers {shown(said)} where a call failed, in place of status 5 and one of {lines}")
+    before, after, found = world.files(), plain(room), world.on_disk()
+    for name in sorted(before.keys() | found.keys()):
+        old, new, now = before.get(name), after.get(name), found.get(name)
+        if now != old and not is_undone(name, old, new, now):
+            raise Wrong(f"leaves {name} as {shown(now)} where a call failed, in place of {shown(old)}")
+    take(world, found)
+
+
+def is_undone(name, old, new, now):
+    """Whether a file has its old records, or its old tiles, after a call that failed; a new one has none."""
+    if None in (now, new) or name.endswith(".tiles"):
+        return is_between(name, old, new, now)
+    return bodies(now) == (bodies(old) if old is not None else [])
+
+
+def bodies(text):
+    """The bodies of the records of a journal; none where it is none yet."""
+    try:
+        return [*journal.bodies(text)]
+    except Fault:
+        return []
+
+
+def take(world, found):
+    for name in world.files():
+        if name not in found:
+            del world.room[name]
+    for name, text in found.items():
+        world.room[name] = text
+
+
+def torn(draws, old, now, places):
+    """The bytes of a file after a power cut: those at these places may be old, new or any others, where old and new differ."""
+    old, torn = old or b"", bytearray(now)
+    how = draws.choice(("old", "new", "mixed", "any"))
+    for start, end in places:
+        for at in range(start, min(end, len(torn))):
+            was = old[at] if at < len(old) else 0
+            if was != torn[at] or at >= len(old):
+                kept = {"old": was, "new": torn[at], "mixed": draws.choice((was, torn[at])), "any": draws.randrange(256)}
+                torn[at] = kept[how]
+    if places and len(now) > len(old) and draws.random() < 0.4:
+        # The file didn't become as long as it was to be.
+        shortest = max([len(old), *(start for start, end in places if end == len(now))])
+        torn = torn[:draws.randrange(min(shortest, len(now)), len(now) + 1)]
+    return bytes(torn)
+
+
+def cut(world, draws, before, room):
+    """Cuts the power: what isn't synced may be lost or torn. Then a journal that was there has its old records, or one more."""
+    for name, places in sorted(unsynced(world).items()):
+        now, old, new = world.room.get(name), before.get(name), room.get(name)
+        if now is None or new is None:
+            continue
+        was = old if old is not None or places != [(FIRST, FIRST + 1)] else now[:FIRST] + b"\0" + now[FIRST + 1:]
+        world.write(name, torn(draws, was, now, places))
+        left = world.room[name]
+        if not name.endswith(".tiles") and old is not None and bodies(left) not in (bodies(old), bodies(new)):
+            raise Wrong(f"may leave {name} after a power cut as {shown(left)}, between {shown(old)} and {shown(new)}")
+
+
+def check_synced(world, words):
+    """That what a command wrote that did its work is synced."""
+    left = unsynced(world)
+    if left:
+        raise Wrong(f"has done its work, and has not synced {left}")
