@@ -173,6 +173,8 @@ def name_of(crate, place):
     owner, trait = place.function.owner, re.search(r"\b(\w+)(?:<.*>)? for ", head_of(place.source, place.function))
     wanted = f"/{owner}{trait[1] if trait else ''}/{place.function.name}" if owner else f"/{place.function.name}"
     found = [it for it in place.places if f"/{it}".endswith(wanted)]
+    if len(found) > 1 and not trait:  # what a type can do stands where the type is declared
+        found.remove(f"{modules_of(crate, place.source)}{wanted}")
     return "::".join([crate.name, *found[0].split("/")]) if len(found) == 1 else None
 
 
