@@ -26,7 +26,7 @@ CHECKS = [
     pages.check_links, pages.check_quotations, pages.check_examples, pages.check_paths, pages.check_figures,
     citations.check_names, citations.check_promises, citations.check_meanings, citations.check_architecture,
     citations.check_commands, citations.check_refusals, citations.check_order, places.check_places, check_reference,
-    house.check_lengths, house.check_columns, house.check_imports, house.check_comments, house.check_errors, house.check_words, house.check_costs, house.check_scripts,
+    house.check_lengths, house.check_columns, house.check_imports, house.check_comments, house.check_errors, house.check_words, house.check_cells, house.check_costs, house.check_scripts,
     house.check_chain, named.check_libraries, named.check_gated, house.check_edits, ledger.check_ledger, house.check_waiting, mutants.check_mutants,
     secrets.check_secrets,
 ]

@@ -158,7 +158,7 @@ def promises_page():
              "The calls of each promise of [PROMISES](../PROMISES.md), with the clauses that carry it; where no clause is named, the whole "
              "contract of the call does. [CLAUSES](CLAUSES.md) has each call.", ""]
     section = ""
-    for _, part, title, _ in citations.promises():
+    for _, part, title in citations.promises():
         if part != section:
             lines += [f"## {part}", ""]
             section = part

@@ -104,16 +104,17 @@ def is_known(span, names):
 CARRIED = ROOT / "tests" / "promises.txt"
 
 
+PROMISE = re.compile(r"\*\*\[(.*?)\]\(reference/PROMISES\.md#[\w-]+\)\.\*\* .+ \*Supposes(?: nothing\.\*|:\* .+)")
+
+
 def promises():
-    """(line, section, title, cells) for each row of the tables of promises; no title where the first cell has none."""
-    is_in, section = False, ""
+    """(line, section, title) for each promise of the page; no title where one of its parts is missing."""
+    section = ""
     for number, line in enumerate((DOCS / "PROMISES.md").read_text().split("\n"), 1):
         section = line.removeprefix("## ") if line.startswith("## ") else section
-        is_in = line.startswith("| Promise |") or is_in and line.startswith("|")
-        if is_in and not re.match(r"\| Promise \||\|-", line):
-            cells = cells_of(line)
-            title = re.match(r"\*\*\[(.*?)\]\(reference/PROMISES\.md#[\w-]+\)\.\*\* ", cells[0])
-            yield number, section, title and title[1], cells
+        if line.startswith("**["):
+            found = PROMISE.fullmatch(line)
+            yield number, section, found and found[1]
 
 
 @cache
@@ -151,10 +152,10 @@ def wrong_parts(parts):
 def check_promises():
     """each promise of PROMISES has its words, what it supposes, and in tests/promises.txt a call with its clauses, which are there"""
     titles = []
-    for number, _, title, cells in promises():
+    for number, _, title in promises():
         titles.append(title)
-        if len(cells) != 2 or not all(cells) or not title:
-            yield f"docs/PROMISES.md:{number}: a promise has two cells, none is empty, and the first begins with a title that is a link"
+        if not title:
+            yield f"docs/PROMISES.md:{number}: a promise is a title that is a link, a text, and what it supposes"
     shown_as = [title for title in titles if title]
     if shown_as != list(carried()):
         yield f"docs/PROMISES.md and tests/promises.txt differ, or their order does: {', '.join(sorted(set(shown_as) ^ set(carried())))}"

@@ -8,7 +8,7 @@ import sys
 from . import comments, edited, ledger, named
 from .citations import CRATES
 from .contracts import contract_of
-from .pages import DOCS, shown, tracked
+from .pages import DOCS, cells_of, shown, tracked
 from .sources import ROOT
 
 sys.path.append(str(ROOT / "bench"))
@@ -202,8 +202,28 @@ def without_costs():
 
 # What scripts make in a page by hand, and what it quotes of the sources, is left out of its words.
 MADE = re.compile(r"<!-- (\w+): begin.*?<!-- \1: end -->|^```(?:antt|rust)$.*?^```$", re.S | re.M)
+MOST_IN_A_CELL = 25
+
+
+def words_of(text):
+    """How many words a text has, but those of the targets of its links."""
+    return len(re.findall(r"\S*\w\S*", re.sub(r"\]\([^)]*\)", "]", text)))
+
+
+def counted_pages():
+    """README and the pages of docs by hand, each with its text but what is left out."""
+    return [(path.name, MADE.sub("", path.read_text())) for path in [ROOT / "README.md", *sorted(DOCS.glob("*.md"))]]
+
+
+def long_cells():
+    """(page, what) for each cell of a table that has too many words to be compared with others."""
+    for name, text in counted_pages():
+        for row in (line for line in text.split("\n") if line.startswith("|")):
+            yield from ((name, f"{name}: {cell[:80]}") for cell in cells_of(row) if words_of(cell) > MOST_IN_A_CELL)
+
+
 LIMITED = {"lengths": long_parts, "columns": wide_lines, "imports": unused_names, "comments": without_comment, "costs": without_costs,
-           "waiting": waiting_edits, "scripts": warnings_of_scripts, "chain": named.longest_chain}
+           "waiting": waiting_edits, "scripts": warnings_of_scripts, "chain": named.longest_chain, "cells": long_cells}
 
 
 def by_crate(check):
@@ -277,11 +297,15 @@ def remarks_of_costs():
 
 def check_words():
     """README and each page of docs by hand has no more words than tests/limits.txt lets through"""
-    for path in [ROOT / "README.md", *sorted(DOCS.glob("*.md"))]:
-        count = len(re.findall(r"\S*\w\S*", MADE.sub("", path.read_text())))
-        most = limits().get(("words", path.name), 0)
+    for name, text in counted_pages():
+        count, most = len(re.findall(r"\S*\w\S*", text)), limits().get(("words", name), 0)
         if count > most:
-            yield f"{path.name} has {count} words, and tests/limits.txt lets {most} through"
+            yield f"{name} has {count} words, and tests/limits.txt lets {most} through"
+
+
+def check_cells():
+    """a cell of a table in these pages has at most 25 words"""
+    yield from over_limit("cells")
 
 
 def lower_limits():
