@@ -30,7 +30,7 @@ CHECKS = [
     (Scene, faults.check_faults), (Scene, faults.check_no_sync), (Scene, faults.check_append), (Scene, faults.check_undoing),
     (Scene, faults.check_first_append), (Scene, faults.check_tiles_anew), (Scene, faults.check_signals),
     (Scene, kills.check_file_limit), (Folder, limits.check_memory), (Judged, limits.check_inputs), (Folder, limits.check_extensions), (Judged, limits.check_long_entries),
-    (Judged, limits.check_many_items),
+    (Judged, limits.check_many_items), (Folder, limits.check_far_items),
     (Scene, disks.check_full), (Scene, disks.check_read_only), (Folder, disks.check_other_disk), (Folder, locks.check_at_once), (Scene, locks.check_readers_at_once),
     (Scene, locks.check_keys_at_once), (Folder, kills.check_kills), (Scene, kills.check_kills_again),
     (Scene, kills.check_first_kills),

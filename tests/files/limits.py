@@ -2,13 +2,14 @@
 
 import functools
 import hashlib
+import os
 import resource
 import signal
 import subprocess
 import sys
 
 from .commands import LOG
-from .folder import DATES, KEY, NEW_LOG, ROOT, unlike
+from .folder import DATES, KEY, NEW_LOG, ROOT, LeftOut, unlike
 from .streams import NOW
 
 # An input file has at most so many bytes (docs/COMMANDS.md, "Status").
@@ -190,3 +191,24 @@ def check_many_items(scene, _kills):
     for words, text in wanted.items():
         found = scene.run(words, preexec_fn=lambda: resource.setrlimit(resource.RLIMIT_AS, (limit, limit)))
         yield from unlike(words.split()[0], found, (0, text, ""))
+
+
+# A program that writes a list of this many bytes at least: the null entry, and then items of the most bytes. An entry of an unknown
+# type stands beside no key.
+FAR = (1 << 32) + (1 << 20)
+LIST = """import sys
+item = (65535).to_bytes(2, "big") + bytes([7]) * 65535 + bytes(2)
+sys.stdout.buffer.write(bytes.fromhex("000200000000"))
+for _ in range(-(-int(sys.argv[1]) // len(item))):
+    sys.stdout.buffer.write(item)
+"""
+
+
+def check_far_items(folder, _kills):
+    """A mirror takes what it has room for of a list with an item after 2^32 bytes, and memory is no reason to refuse that"""
+    if os.environ.get("MTC_ALL") != "1":
+        raise LeftOut("its list takes 4 GiB of memory")
+    folder.said(f"mirror-init m {LOG}")
+    folder.write("list", LIST.encode())
+    found = folder.run("mirror-take m /dev/stdin", before=["sh", "-c", f'python3 list {FAR} | "$0" "$@"'])
+    yield from unlike("mirror-take", found, (0, "mirrored 2\n", ""))
