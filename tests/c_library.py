@@ -405,7 +405,7 @@ def main(words):
         ended, lines = programs.in_threads(folder, archive, [*long, *table])
         wrong = list(wrong_in_threads(library, ended, lines[:-1], [*long, *table]))
         status |= report(f"threads of {header_number('MTC_STACK')} bytes of stack judge all rows and these", wrong,
-                         f": at most {lines[-1:]} bytes of it were used")
+                         f": at most {''.join(lines[-1:])} bytes of it were used")
         status |= report("null pointers", list(programs.wrong_nulls(folder, archive)))
         status |= check_programs(library, folder, archive, shared, table)
         status |= report("the library is made twice, byte for byte", list(wrong_twice(folder, archive, shared)))
