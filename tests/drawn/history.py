@@ -148,7 +148,7 @@ class History:
         if not self.is_traced or not self.is_command(words):
             return self.plain(words)
         (wanted, room), before = world.wanted(words), world.files()
-        fault = stops.drawn(self.draws, len(before.get(words[1], b"")) if words[1:] else 0, fails)
+        fault = stops.drawn(self.draws, world.room, words, fails)
         self.line += f" at {fault}"
         said = world.run(words, before=stops.under_trace(world, fault))
         if said[0] == stops.KILLED:

@@ -11,6 +11,7 @@ import subprocess
 
 from files.tracing import tail_pages
 from reference import journal
+from reference.arguments import JOURNALS, WANTED
 from reference.fault import Fault
 from reference.tiles import BYTES
 
@@ -18,8 +19,8 @@ from .world import Wrong, plain, shown
 
 CALLS, KILLED = "pwrite64,fsync,ftruncate,write", -9
 ERRORS = {"fsync": "EIO", "pwrite64": "ENOSPC"}
-# Of the calls of each kind so many are drawn from, but of the pieces in which a journal's end is written again.
-MOST = {"fsync": 8, "write": 3, "pwrite64": 4}
+# How often each call is drawn.
+OFTEN = {"fsync": 5, "pwrite64": 3, "write": 2}
 # The place of the first commit byte.
 FIRST = len(journal.HEADER)
 
@@ -29,13 +30,24 @@ def can_trace():
     return bool(shutil.which("strace")) and subprocess.run(probe, capture_output=True).returncode == 0
 
 
-def drawn(draws, length, fails):
-    """A call at which a command over a journal of so many bytes is stopped, or that fails, as strace is asked for it."""
-    call = draws.choice(sorted(ERRORS) if fails else sorted(MOST))
-    place = draws.randrange(MOST[call])
-    if call == "pwrite64" and draws.random() < 0.8:
-        # One of the writes after those of the journal's end.
-        place += len(tail_pages(length))
+def before_the_record(room, words):
+    """How many syncs and writes a command makes before those of its record: each journal and its folder are synced, its end is
+    written again, and its tile file is synced, with its folder if it is made (tests/files/order.py)."""
+    journals = [(kind, word) for kind, word in zip(WANTED[words[0]], words[1:]) if kind in JOURNALS]
+    if words[0].startswith("init") or words[0] == "mirror-init":
+        return {"fsync": 2, "pwrite64": 0, "write": 0}
+    tiles = [f"{word}.tiles" for kind, word in journals if kind != "S"]
+    syncs = 3 * len(journals) + len(tiles) + sum(name not in room for name in tiles) + 2 * ("tile" in words[0])
+    writes = sum(len(tail_pages(len(room[word]))) for _, word in journals if word in room) + ("tile" in words[0])
+    return {"fsync": syncs, "pwrite64": writes, "write": 0}
+
+
+def drawn(draws, room, words, fails):
+    """A call at which a command is stopped, or that fails, as strace is asked for it; mostly one of those of its record."""
+    calls = [call for call in OFTEN if not fails or call in ERRORS]
+    call = draws.choices(calls, [OFTEN[call] for call in calls])[0]
+    first = before_the_record(room, words)[call]
+    place = first + draws.randrange(2) if draws.random() < 0.7 else draws.randrange(first + 3)
     how = f"error={ERRORS[call]}" if fails else "signal=KILL"
     return f"{call}:{how}:when={place + 1}"
 
