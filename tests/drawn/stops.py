@@ -10,9 +10,10 @@ import shutil
 import subprocess
 
 from files.tracing import tail_pages
-from reference import journal
+from reference import commands, journal
 from reference.arguments import JOURNALS, WANTED
 from reference.fault import Fault
+from reference.room import Room
 from reference.tiles import BYTES
 
 from .world import Wrong, plain, shown
@@ -162,9 +163,16 @@ def torn(draws, old, now, places):
     return bytes(torn)
 
 
+def lacks_tiles(room, name):
+    """Whether a log or a mirror hasn't the tiles of which its journal speaks."""
+    return any(b"BadTile" in commands.answer(words, room)[2] for words in (["checkpoint", name], ["mirror-entries", name, "0"]))
+
+
 def cut(world, draws, before, room):
-    """Cuts the power: what isn't synced may be lost or torn. Then a journal that was there has its old records, or one more."""
-    for name, places in sorted(unsynced(world).items()):
+    """Cuts the power: what isn't synced may be lost or torn. Then a journal that was there has its old records, or one more, and the
+    tiles of which it speaks, if it had them before."""
+    touched = sorted(unsynced(world).items())
+    for name, places in touched:
         now, old, new = world.room.get(name), before.get(name), room.get(name)
         if now is None or new is None:
             continue
@@ -173,6 +181,9 @@ def cut(world, draws, before, room):
         left = world.room[name]
         if not name.endswith(".tiles") and old is not None and bodies(left) not in (bodies(old), bodies(new)):
             raise Wrong(f"may leave {name} after a power cut as {shown(left)}, between {shown(old)} and {shown(new)}")
+    for name in sorted({name.removesuffix(".tiles") for name, _ in touched}):
+        if lacks_tiles(world.copy(), name) and not lacks_tiles(Room(before), name):
+            raise Wrong(f"may leave {name} after a power cut without the tiles of which it speaks")
 
 
 def check_synced(world, words):

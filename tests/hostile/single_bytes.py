@@ -52,20 +52,14 @@ def scenes():
 
 
 # What is compared of what a command leaves: the journals, and their tile files.
-JOURNALS = ("s", "j", "m")
-LEFT = (*JOURNALS, *(f"{name}.tiles" for name in JOURNALS[1:]))
+LEFT = ("s", "j", "m", "j.tiles", "m.tiles")
 
 
 def answered(label, text):
     """What the readers say where the file that is tried is this one, and the files that are to be left."""
     words, files, name, _ = scenes()[label]
-    tried = {**files, name: text}
-    left = dict(tried)
-    answer = commands.answer(words, left)
-    for journal_name in JOURNALS:
-        if left.get(journal_name) != tried.get(journal_name):
-            left[journal_name] = journal.cut_off(left[journal_name])
-    return [answer, *map(left.get, LEFT)]
+    left = {**files, name: text}
+    return [commands.answer(words, left), *map(left.get, LEFT)]
 
 
 def found(run, label, text):

@@ -37,12 +37,7 @@ def end_of(text):
 
 
 def appended(text, body):
-    """The journal after an append: the commit byte that ended it is open, and what stood after the record stays."""
-    end = end_of(text)
+    """The file of a journal after an append: the commit byte that ended it is open. What stood after it is cut off, and if the file
+    is longer, zeros follow the record."""
     record = bytes([OPEN]) + len(body).to_bytes(4, "big") + body + bytes([CLOSED])
-    return text[:end] + record + text[end + len(record):]
-
-
-def cut_off(text):
-    """A file whose journal is this one, where zeros stand after its end: an append cuts off what stood there."""
-    return text[:end_of(text) + 1].ljust(len(text), bytes([CLOSED]))
+    return (text[:end_of(text)] + record).ljust(len(text), b"\0")

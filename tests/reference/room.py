@@ -130,8 +130,8 @@ def opened_with_tiles(words, name, files, read, writes=True, adopts=True, mine=(
 
 
 def appended(files, name, body):
-    """Adds a record to a journal; of a file that is longer zeros follow (docs/FORMATS.md, "Journals")."""
-    files[name] = journal.cut_off(journal.appended(files[name], body))
+    """Adds a record to a journal."""
+    files[name] = journal.appended(files[name], body)
 
 
 def stored(files, name, held, size):
