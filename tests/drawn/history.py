@@ -9,7 +9,7 @@ from reference.log import TILE
 
 from . import files, stops
 from .words import COSIGNERS, LOGS, MIRRORS, Words
-from .world import STDIN, World, Wrong
+from .world import STDIN, World
 
 # How often words are hostile, a file is damaged, put back or removed, and a command is given again and again.
 HOSTILE, DAMAGED, OLD, REMOVED, AGAIN = 0.12, 0.05, 0.015, 0.015, 0.03

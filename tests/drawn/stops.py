@@ -21,7 +21,7 @@ from .world import Wrong, plain, shown
 CALLS, KILLED = "pwrite64,fsync,ftruncate,write", -9
 ERRORS = {"fsync": "EIO", "pwrite64": "ENOSPC"}
 # How often each call is drawn.
-OFTEN = {"fsync": 5, "pwrite64": 3, "write": 2}
+OFTEN = {"fsync": 5, "pwrite64": 3, "write": 2, "ftruncate": 0.5}
 # The place of the first commit byte.
 FIRST = len(journal.HEADER)
 
@@ -36,18 +36,18 @@ def before_the_record(room, words):
     written again, and its tile file is synced, with its folder if it is made (tests/files/order.py)."""
     journals = [(kind, word) for kind, word in zip(WANTED[words[0]], words[1:]) if kind in JOURNALS]
     if words[0].startswith("init") or words[0] == "mirror-init":
-        return {"fsync": 2, "pwrite64": 0, "write": 0}
+        return {"fsync": 2, "pwrite64": 0}
     tiles = [f"{word}.tiles" for kind, word in journals if kind != "S"]
     syncs = 3 * len(journals) + len(tiles) + sum(name not in room for name in tiles) + 2 * ("tile" in words[0])
     writes = sum(len(tail_pages(len(room[word]))) for _, word in journals if word in room) + ("tile" in words[0])
-    return {"fsync": syncs, "pwrite64": writes, "write": 0}
+    return {"fsync": syncs, "pwrite64": writes}
 
 
 def drawn(draws, room, words, fails):
     """A call at which a command is stopped, or that fails, as strace is asked for it; mostly one of those of its record."""
     calls = [call for call in OFTEN if not fails or call in ERRORS]
     call = draws.choices(calls, [OFTEN[call] for call in calls])[0]
-    first = before_the_record(room, words)[call]
+    first = before_the_record(room, words).get(call, 0)
     place = first + draws.randrange(2) if draws.random() < 0.7 else draws.randrange(first + 3)
     how = f"error={ERRORS[call]}" if fails else "signal=KILL"
     return f"{call}:{how}:when={place + 1}"

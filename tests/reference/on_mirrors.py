@@ -1,6 +1,6 @@
 """What commands on the journal of a mirror answer and leave, by docs/COMMANDS.md."""
 
-from . import cosigner, entry, log, mirror, store
+from . import cosigner, entry, mirror, store
 from .on_cosigners import opened_cosigner, signature
 from .on_logs import up_to
 from .room import appended, begun, checked, lines, opened_with_tiles, refused, stored
@@ -35,7 +35,7 @@ def mirror_tile(words, files):
     if full <= held.tiled:
         raise refused(words, 4, "NothingNew")
     stored(files, words[1], held, full)
-    appended(files, words[1], log.tiles_body(full))
+    appended(files, words[1], mirror.tiles_body(full))
     return lines(f"tiled {full}")
 
 
