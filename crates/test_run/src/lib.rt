@@ -14,6 +14,8 @@ mod blocks;
 #[cfg(test)]
 mod certificates;
 #[cfg(test)]
+mod changed_files;
+#[cfg(test)]
 mod cosigners;
 #[cfg(test)]
 mod desk;
