@@ -1,0 +1,12 @@
+mod Answering
+mod Blocks
+mod Keeping
+mod Leaves
+mod Leaving
+mod Opening
+mod Pushing
+mod ReadBodies
+mod Resting
+mod Tiling
+mod Walk
+mod Walking

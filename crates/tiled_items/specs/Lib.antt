@@ -1,0 +1,13 @@
+pub mod Answers
+pub mod Blocks
+pub mod Durable
+pub mod Held
+pub mod Machine
+pub mod Opened
+pub mod Openings
+pub mod Rules
+pub mod Staying
+pub mod Tiling
+pub mod Views
+pub mod Walk
+pub mod Words
