@@ -276,35 +276,35 @@ def tried_together(copy, crate, group, names):
 
 
 def tried(copy, crate, edits):
-    """(edit, what was found) for these edits of a crate: those first whose functions can be checked alone."""
-    unclear, results = [it for it in edits if not named([it])], []
+    """Yields (edit, what was found) for edits of a crate, check by check: those first whose functions can be checked alone."""
+    unclear = [it for it in edits if not named([it])]
     for part in ([it for it in edits if it not in unclear], unclear):
         names = proved_names(copy, crate, part) if part else []
         for group in together(part):
             done, again = tried_together(copy, crate, group, names)
-            results += done
+            yield done
             for edit in again:
-                results += tried_together(copy, crate, [edit], names)[0]
+                yield tried_together(copy, crate, [edit], names)[0]
     copy.begin(crate)  # crates above are checked over it as it stands
-    return results
 
 
 def reported(copy, crate, edits):
-    """Tries edits of a crate, prints what came of each, writes their lines, and returns whether each counts."""
-    before, begun = seconds(), time.monotonic()
-    results = tried(copy, crate, edits)
-    for edit, found in sorted(results, key=lambda it: it[0].name):
-        told = f"refused, {found.clause.kind}" if found.counts else "DOES NOT COUNT"
-        print(f"{edit.key}: {told}: {found.what[:200]}")
+    """Tries edits of a crate, prints what came of each, writes their lines as they come, and returns whether each counts."""
+    before, begun, results = seconds(), time.monotonic(), []
+    for done in tried(copy, crate, edits):
+        for edit, found in done:
+            told = f"refused, {found.clause.kind}" if found.counts else "DOES NOT COUNT"
+            print(f"{edit.key}: {told}: {found.what[:200]}", flush=True)
+        if any(stamp_of(one) != copy.stamps[one] for one in (crate, *below(crate))):
+            print(f"{crate}: it changed, or what is below it, while its edits were tried: no line is written")
+            return False
+        today = time.strftime("%Y-%m-%d", time.gmtime())
+        ledger.write({edit.key: line_of(edit, found, today) for edit, found in done})
+        results += done
     by_search = sum(found.counts and found.clause.by_search for _, found in results)
     missed = sum(not found.counts for _, found in results)
     print(f"{crate}: {len(results)} edits, {by_search} refused by a search, {len(results) - by_search - missed} by a proof by hand,",
           f"{missed} not; {seconds() - before:.0f} processor seconds, {time.monotonic() - begun:.0f} by the clock", flush=True)
-    if any(stamp_of(one) != copy.stamps[one] for one in (crate, *below(crate))):
-        print(f"{crate}: it changed, or what is below it, while its edits were tried: no line is written")
-        return False
-    today = time.strftime("%Y-%m-%d", time.gmtime())
-    ledger.write({edit.key: line_of(edit, found, today) for edit, found in results})
     return not missed
 
 
