@@ -79,7 +79,11 @@ class Disk:
 
     def remove(self):
         self.refuse(False)
-        subprocess.run(["umount", self.path], capture_output=True)
+        # A command that was killed may have its files for a moment more.
+        for _ in range(50):
+            if subprocess.run(["umount", self.path], capture_output=True).returncode == 0:
+                break
+            time.sleep(0.1)
         (self.block / "reset").write_text("1")
         (ZRAM / "hot_remove").write_text(self.number)
 
