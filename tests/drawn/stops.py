@@ -156,10 +156,10 @@ def torn(draws, old, now, places):
             if was != torn[at] or at >= len(old):
                 kept = {"old": was, "new": torn[at], "mixed": draws.choice((was, torn[at])), "any": draws.randrange(256)}
                 torn[at] = kept[how]
-    if places and len(now) > len(old) and draws.random() < 0.4:
+    last = [start for start, end in places if end == len(now) > len(old)]
+    if last and draws.random() < 0.4:
         # The file didn't become as long as it was to be.
-        shortest = max([len(old), *(start for start, end in places if end == len(now))])
-        torn = torn[:draws.randrange(min(shortest, len(now)), len(now) + 1)]
+        torn = torn[:draws.randrange(max(len(old), *last), len(now) + 1)]
     return bytes(torn)
 
 

@@ -7,7 +7,7 @@ from reference.arguments import IDS, JOURNALS, MOST, NUMBERS, WANTED
 from reference.fault import Fault
 
 from . import files
-from .world import BROKEN, LINKS, LONG, NULL
+from .world import LINKS, LONG, NULL, UNREADABLE
 
 LOGS, COSIGNERS, MIRRORS = ("j0", "j1", "j2"), ("s0", "s1", "s2", "s3"), ("m0", "m1")
 # How often each command is drawn, where it isn't as often as others. A drill takes up to a second.
@@ -19,7 +19,7 @@ BAD_WORDS = ("", "-", "-1", "--help", "x", "00", "01", "+1", "1.0", "92233720368
              "18446744073709551616", " 1", "1 ", "\u0661", "32473.01", "32473.", "1.18446744073709551616", "0", "4", "11",
              "253402300800", "16777217", b"\xff", b"a\x80")
 BAD_FILES = ("none", "none/x", "j0/x", "n" * 249, "n" * 250, "n" * 256, "a\nb", "\x1b[2J", "c\u009b\u00e9", "j0.tiles", "m0.tiles",
-             "x.tiles", *BROKEN, *LINKS, LONG, NULL, "./j0", "./s0", "./m0", "./d")
+             "x.tiles", "d", "loop", *LINKS, LONG, NULL, "./j0", "./s0", "./m0", "./d")
 
 
 # The commands whose names stand for something else in the class below.
@@ -205,7 +205,21 @@ class Words:
     def checkpoint(self):
         return [self.log()[0]]
 
-    landmark = landmarks_of = switch = tile = tile_anew = checkpoint
+    landmark = landmarks_of = switch = checkpoint
+
+    def to_be_tiled(self, names, read, has_work):
+        """A log or a mirror whose tiles are to be written, if there is one."""
+        found = [name for name in names if (held := self.held(name, read)) is not None and has_work(held)]
+        return [self.draws.choice(found or names)]
+
+    def tile(self):
+        return self.to_be_tiled(LOGS, log.opened, lambda held: held.size - held.tiled >= log.TILE)
+
+    def tile_anew(self):
+        return self.to_be_tiled(LOGS, log.opened, lambda held: held.tiled)
+
+    def mirror_tile(self):
+        return self.to_be_tiled(MIRRORS, mirror.opened, lambda held: held.size - held.tiled >= log.TILE)
 
     def sized_log(self):
         name, held = self.log()
@@ -240,7 +254,7 @@ class Words:
 
     def light_certs(self):
         name, first = self.light_cert()
-        return [name, first, first + self.near(3)]
+        return [name, first, first + (1 if self.draws.random() < 0.6 else self.near(3))]
 
     def signatures(self):
         """A file of signatures of an interval, and that interval."""
@@ -333,9 +347,6 @@ class Words:
             items = files.longer(self.draws, items, 300 if self.draws.random() < 0.05 else 8)
         return [name, self.entries(items)]
 
-    def mirror_tile(self):
-        return [self.mirror()[0]]
-
     def mirror_entries(self):
         name, held = self.mirror()
         return [name, self.near(held.size if held else 1)]
@@ -418,4 +429,5 @@ class Words:
         if wanted in NUMBERS:
             return (*BAD_WORDS, str(MOST), "0", "1", "5", "10")
         there = [name for name in self.world.files() if not name.endswith(".tiles")]
-        return (*BAD_FILES, "", "-", *there) if wanted in JOURNALS else (*BAD_FILES, *there, *there)
+        # As a journal the file that can't be read is an empty one, by the length that the system says it has.
+        return (*BAD_FILES, "", "-", *there) if wanted in JOURNALS else (*BAD_FILES, UNREADABLE, *there, *there)

@@ -12,7 +12,8 @@ from reference import commands
 from reference.room import MOST, Room
 
 # A folder, a link that leads to itself, and a file of which no byte can be read; links to journals; an input that is too long.
-BROKEN, LINKS, LONG = ("d", "loop", "unreadable"), {"by-link": "s0", "log-by-link": "j0"}, "long"
+UNREADABLE, LINKS, LONG = "unreadable", {"by-link": "s0", "log-by-link": "j0"}, "long"
+BROKEN = "d", "loop", UNREADABLE
 # No item of an entries file and no export begins so.
 LONG_TEXT = b"\xff" * (MOST + 1)
 STDIN, NULL = "/dev/stdin", "/dev/null"
@@ -51,7 +52,7 @@ class World:
         self.room = Room({LONG: LONG_TEXT, NULL: b""}, broken=BROKEN, streams=(NULL, STDIN), links=LINKS)
         (self.path / "d").mkdir()
         (self.path / "loop").symlink_to("loop")
-        (self.path / "unreadable").symlink_to("/proc/self/mem")
+        (self.path / UNREADABLE).symlink_to("/proc/self/mem")
         for name, target in LINKS.items():
             (self.path / name).symlink_to(target)
         with (self.path / LONG).open("wb") as file:
