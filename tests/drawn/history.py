@@ -151,12 +151,13 @@ class History:
         fault = stops.drawn(self.draws, world.room, words, fails)
         self.line += f" at {fault}"
         said = world.run(words, before=stops.under_trace(world, fault))
+        unsynced = stops.unsynced(world)
         if said[0] == stops.KILLED:
             stops.check(world, words, said, wanted, room)
             self.counts["stopped"] += 1
             if self.draws.random() < 0.6:
                 self.line += ", and a power cut"
-                stops.cut(world, self.draws, before, room)
+                stops.cut(world, self.draws, before, room, unsynced)
                 self.counts["power cuts"] += 1
             return "killed"
         if fails and said != wanted:
@@ -165,7 +166,7 @@ class History:
             return 5
         world.compare(said, wanted, room)
         if wanted[0] == 0:
-            stops.check_synced(world, words)
+            stops.check_synced(unsynced)
         return wanted[0]
 
     def is_command(self, words):

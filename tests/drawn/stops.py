@@ -59,12 +59,15 @@ def under_trace(world, fault):
 
 
 def unsynced(world):
-    """By file the places, as starts and ends, that were written after its last sync, by the trace of a command."""
+    """By file the places, as starts and ends, that were written after its last sync, by the trace of a command. When a commit byte
+    is opened there are none: the record is synced, and so are the tiles of which it speaks."""
     found = {}
     for line in (world.path / "trace").read_text(errors="replace").splitlines():
         write = re.match(r"pwrite64\(\d+<(.*?)>.*, (\d+), (\d+)\) += (\d+)$", line)
         sync = re.match(r"fsync\(\d+<(.*?)>\) += 0$", line)
         if write:
+            if found and r', "\1", 1, ' in line:
+                raise Wrong(f"opens a commit byte, and has not synced {found}")
             found.setdefault(write[1].split("/")[-1], []).append((int(write[3]), int(write[3]) + int(write[2])))
         elif sync:
             found.pop(sync[1].split("/")[-1], None)
@@ -168,11 +171,10 @@ def lacks_tiles(room, name):
     return any(b"BadTile" in commands.answer(words, room)[2] for words in (["checkpoint", name], ["mirror-entries", name, "0"]))
 
 
-def cut(world, draws, before, room):
+def cut(world, draws, before, room, touched):
     """Cuts the power: what isn't synced may be lost or torn. Then a journal that was there has its old records, or one more, and the
     tiles of which it speaks, if it had them before."""
-    touched = sorted(unsynced(world).items())
-    for name, places in touched:
+    for name, places in sorted(touched.items()):
         now, old, new = world.room.get(name), before.get(name), room.get(name)
         if now is None or new is None:
             continue
@@ -181,13 +183,12 @@ def cut(world, draws, before, room):
         left = world.room[name]
         if not name.endswith(".tiles") and old is not None and bodies(left) not in (bodies(old), bodies(new)):
             raise Wrong(f"may leave {name} after a power cut as {shown(left)}, between {shown(old)} and {shown(new)}")
-    for name in sorted({name.removesuffix(".tiles") for name, _ in touched}):
+    for name in sorted({name.removesuffix(".tiles") for name in touched}):
         if lacks_tiles(world.copy(), name) and not lacks_tiles(Room(before), name):
             raise Wrong(f"may leave {name} after a power cut without the tiles of which it speaks")
 
 
-def check_synced(world, words):
+def check_synced(left):
     """That what a command wrote that did its work is synced."""
-    left = unsynced(world)
     if left:
         raise Wrong(f"has done its work, and has not synced {left}")
