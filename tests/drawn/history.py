@@ -22,6 +22,8 @@ WRITING = ("init-log", "init-cosigner", "init-cosigner2", "mirror-init", "issue"
 # So often a command is given that signs; and others.
 MOST_SIGNED, MOST_AGAIN = 35, 4
 SMALL, LARGE = 0.4, (250, 256, 262, 508, 520)
+# Few of these do their work, so half of them are stopped.
+TILING = ("tile", "tile-anew", "mirror-tile")
 
 
 class History:
@@ -177,6 +179,8 @@ class History:
         way = self.draws.choices(["plain", *WAYS], [1 - sum(WAYS.values()), *WAYS.values()])[0]
         if way in AT_A_CALL and words[:1] and words[0] not in WRITING and self.draws.random() < 0.8:
             way = "plain"
+        if words[:1] and words[0] in TILING and self.draws.random() < 0.5:
+            way = "stopped"
         self.line = f"{' '.join(map(str, words))}{'' if way == 'plain' else f' ({way})'}"
         status = getattr(self, way.replace(" ", "_"))(words)
         self.begun += 1

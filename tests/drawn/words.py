@@ -13,7 +13,7 @@ LOGS, COSIGNERS, MIRRORS = ("j0", "j1", "j2"), ("s0", "s1", "s2", "s3"), ("m0", 
 # How often each command is drawn, where it isn't as often as others. A drill takes up to a second.
 OFTEN = {"issue": 5, "issue-list": 4, "landmark": 4, "advance": 5, "cosign": 6, "mirror-take": 5, "mirror-advance": 3,
          "mirror-cosign": 4, "child": 3, "tile": 3, "mirror-tile": 3, "drill": 0.1, "help": 0.5, "version": 0.5, "keygen": 0.7,
-         "switch": 0.7}
+         "switch": 0.7, "verify": 6, "audit": 4}
 WEIGHTS = {name: OFTEN.get(name, 2) for name in WANTED}
 BAD_WORDS = ("", "-", "-1", "--help", "x", "00", "01", "+1", "1.0", "9223372036854775807", "9223372036854775808",
              "18446744073709551616", " 1", "1 ", "\u0661", "32473.01", "32473.", "1.18446744073709551616", "0", "4", "11",
