@@ -36,5 +36,5 @@ for one in $waited; do
     wait "$one" || status=1
 done
 grep -h '^left out' "$logs"/bench-page-*.log || true
-"$root/bench/plot.sh" || status=1
+"$root/tests/documents.sh" --write || status=1
 exit "$status"

@@ -1,14 +1,12 @@
-#!/usr/bin/env python3
 """Computes how many bytes certificates have, by the forms of docs/FORMATS.md and by the standards that are named beside each number.
 
 A certificate of a log, with its path alone and with 1 and 3 cosignatures, in a subtree of 2^10, 2^20 and 2^24 entries; beside it
 the chain of X.509 for the same server, that is its certificate and the one intermediate certificate that is sent with it. The
 server's name, key and validity are those of examples/www.cert in all of them. Then what a relying party fetches a day. Nothing is
 run or timed. The certificates of examples/ have to have the bytes that are computed of them.
-Usage: bench/sizes.py    prints the table of docs/SPEED.md; bench/plot.sh puts it there
+bench/figures.py has the table in docs/SPEED.md.
 """
 
-import sys
 from dataclasses import dataclass
 from pathlib import Path
 
@@ -157,15 +155,11 @@ def rows():
     yield f"| all entries, before `switch`, with keys, which a monitor fetches once | {shown(*(2 ** level * entry_with_key() for level in LEVELS))} | [FORMATS](FORMATS.md#entries) |"
 
 
-def main():
+def faults():
+    """The certificates of examples/ that have other bytes than are computed of them."""
     wanted = {"first": log_certificate(1, 1, 0, (9,)), "www": log_certificate(1, 2, 0),
               "mail": log_certificate(2, 2, 0, (12, 14), name(3, 4))}
     for file, count in wanted.items():
         found = (EXAMPLES / f"{file}.cert").stat().st_size
         if found != count:
-            sys.exit(f"wrong: examples/{file}.cert has {found} bytes, and {count} were computed")
-    print(*rows(), sep="\n")
-
-
-if __name__ == "__main__":
-    main()
+            yield f"examples/{file}.cert has {found} bytes, and {count} were computed"

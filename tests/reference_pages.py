@@ -1,5 +1,6 @@
 #!/usr/bin/env python3
-"""The pages of docs/reference/, made from the sources: definitions, clauses, crates, and what has to be trusted.
+"""The pages of docs/reference/, made from the sources: definitions, clauses, crates, and what has to be trusted; and parts of other
+pages, as the tables of speeds that bench/figures.py makes.
 
 Usage: tests/reference_pages.py            says which pages are not what it makes
        tests/reference_pages.py --write    writes them, as tests/documents.sh --write does
@@ -11,6 +12,10 @@ import beliefs
 from checks import citations, comments, places
 from checks.citations import CRATES, below
 from checks.sources import ROOT
+
+sys.path.append(str(ROOT / "bench"))
+import figures
+import sizes
 
 FOLDER = ROOT / "docs" / "reference"
 MADE = "<!-- made by tests/reference_pages.py: change the sources and run tests/documents.sh --write -->"
@@ -213,7 +218,8 @@ def pages():
 def parts():
     """The parts of pages by hand that are made: (page, its mark, what stands there)."""
     return [("BELIEFS.md", "trusted", beliefs.summary()), ("BELIEFS.md", "edits", beliefs.edits_summary()),
-            ("CONTRIBUTING.md", "places", places.table()), ("ARCHITECTURE.md", "layers", layers())]
+            ("CONTRIBUTING.md", "places", places.table()), ("ARCHITECTURE.md", "layers", layers()),
+            *((page, mark, "\n".join(lines)) for page, mark, lines in figures.parts())]
 
 
 def with_part(text, mark, part):
@@ -233,11 +239,12 @@ def made():
         text = (ROOT / "docs" / name).read_text()
         for _, mark, part in (one for one in parts() if one[0] == name):
             text = text and with_part(text, mark, part)
-        yield ROOT / "docs" / name, text
+        yield (ROOT / "docs" / name).resolve(), text
+    yield ROOT / "docs" / "speed.svg", figures.picture()
 
 
 def differences():
-    yield from beliefs.faults()
+    yield from (*beliefs.faults(), *sizes.faults())
     for path, text in made():
         shown = path.relative_to(ROOT)
         if text is None:

@@ -114,7 +114,10 @@ def written_in(page, what):
 
 
 def check_examples():
-    """what FORMATS writes out byte by byte are files that the program takes"""
+    """what FORMATS writes out byte by byte are files that the program takes; the proof in TOUR is that of examples/www.cert"""
+    shown_proof = re.findall(r"^ {4}([0-9a-f]+) +", (DOCS / "TOUR.md").read_text().split("A certificate\n")[1].split("\n## ")[0], re.M)
+    if bytes.fromhex("".join(shown_proof)) != (ROOT / "examples/www.cert").read_bytes()[-84:]:
+        yield "docs/TOUR.md: the bytes of the proof aren't the last 84 of examples/www.cert"
     page = (DOCS / "FORMATS.md").read_text()
     for what, name in (("A certificate", "first.cert"), ("A journal", "first.journal")):
         written, section = written_in(page, what)
