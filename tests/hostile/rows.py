@@ -3,11 +3,11 @@
 from itertools import product
 from typing import NamedTuple
 
-from reference import commands, journal, mirror
+from reference import commands, entry, journal, mirror
 
 from .files import LOG, asked
 from .scenes import HELD, LARGER, NOW, advance_request, advanced, cosigned, entries, export, grown_log, issue_request, items
-from .scenes import longer_list, mirror_bodies, mirrored, new_log, ruled, trusting
+from .scenes import large_item, longer_list, mirror_bodies, mirrored, misfits, new_log, ruled, trusting
 
 # So many bytes a call an output takes that takes all.
 ALL = 1000
@@ -85,6 +85,11 @@ def mirror_rows():
     """What a mirror takes, what it writes, and what it has a cosigner hold."""
     lists = {"good": longer_list(), "as-many": longer_list()[:-6], "fewer": entries(2), "no-item": b"", "another-item": entries(LARGER),
              "another-first-item": b"\0\1\7\0\0" + longer_list(), "an-item-that-is-cut": longer_list()[:-1]}
+    # What follows the items that the mirror has: one that no list has, and such as fill a record, or are too large for one.
+    more = {label: [item] for label, item in misfits().items()}
+    more |= {f"{size}-bytes": [large_item(size)] for size in (mirror.MOST_ITEM - 1, mirror.MOST_ITEM, mirror.MOST_ITEM + 1)}
+    more |= {"one-and-too-many-bytes": [(bytes(2), b""), large_item(mirror.MOST_ITEM + 1)], "three-of-two-records": [large_item(60_000)] * 3}
+    lists |= {label: lists["as-many"] + entry.written(found) for label, found in more.items()}
     for label, text in lists.items():
         yield Row(f"mirror-take:{label}", "mirror-take m e".split(), {"m": mirrored(), "e": text}, reported=("m", "m.tiles"))
     for label, text in mirrors().items():

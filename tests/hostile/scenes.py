@@ -2,10 +2,11 @@
 
 import base64
 from functools import cache
-from hashlib import sha384
+from hashlib import sha256, sha384
 
 from reference import certificate, cosigner, entry, journal, log as log_records, merkle, mirror, proof, request, store
 from reference.cosigner import Advance, Sign
+from reference.der import BIT_STRING, SEQUENCE, encoded
 from reference.hss import u32
 from reference.keys import Key
 from reference.log import short
@@ -15,6 +16,8 @@ from .files import COSIGNERS, FIRST, LAST, LOG, asked, root_of, signed, signers,
 
 NOW = FIRST
 KEY_HEAD = bytes.fromhex("302a300506032b6570032100")
+# The algorithms of keys.
+ED25519, P256 = bytes.fromhex("300506032b6570"), bytes.fromhex("301306072a8648ce3d020106082a8648ce3d030107")
 HEIGHT_5, WIDTH_1 = 5, 1
 # The sizes at which the cosigner has advanced, and the subtree that it has signed.
 HELD, LATER, SPAN = 3, 5, (0, 2)
@@ -198,6 +201,26 @@ def item_of(name, byte, form):
     """An entry of this form for a domain, with a key of such bytes."""
     key = KEY_HEAD + bytes([byte] * 32)
     return request.entry(request.Request([FIRST, LAST], [name], None, key), LOG, form), key
+
+
+def large_item(size):
+    """An entry and its key, which have so many bytes together."""
+    def made(count):
+        key = encoded(SEQUENCE, ED25519 + encoded(BIT_STRING, bytes(1 + count)))
+        return request.entry(request.Request([FIRST, LAST], ["large.example"], None, key), LOG, 2), key
+
+    text, _ = made(32)
+    # In a long key the heads of two elements have four bytes each, and one says how many bits are unused.
+    return made(size - len(text) - len(ED25519) - 9)
+
+
+def misfits():
+    """Items that no list has: the key isn't the entry's."""
+    (text, key), no_key = item_of("misfit.example", 3, 2), b"no key"
+    of_no_key = text.replace(sha256(key).digest(), sha256(no_key).digest())
+    return {"no-key": (text, b""), "another-key": (text, item_of("misfit.example", 4, 2)[1]), "a-longer-key": (text, key + bytes(1)),
+            "another-algorithm": (text.replace(ED25519, P256), key), "a-key-of-no-form": (of_no_key, no_key),
+            "a-key-beside-no-form": (FORMLESS[0], key), "a-key-beside-null": (bytes(2), key)}
 
 
 def log_settings():
