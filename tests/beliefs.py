@@ -15,11 +15,13 @@ from checks.definitions import TOKEN, declared, imports_of, module_of, sign_of
 from checks.sources import CLAUSE, FUNCTION, ROOT, after_braces, after_head, crates
 
 # The sources in which they stand: the crate of `run`, and those of its laws.
-OF_LAWS = ("mtc_laws",)
+OF_LAWS = ("mtc_laws", "mtc_headline")
 SOURCES = [path for crate in ("mtc_top", *OF_LAWS) for path in sorted((ROOT / "crates" / crate / "src").rglob("*.rt"))]
 # Each statement: what its table is headed by, the functions whose contracts it is, and its pages of definitions. First the
-# record that `run` ensures with the laws of each run, and then the other laws by what they are of.
+# headline, then the record that `run` ensures with the laws of each run, and then the other laws by what they are of.
 LAWS = "mtc_laws.specs.{}Laws"
+HEADLINE = ("The headline and its joints name", r"law_(?:the_headline|heard|printed_is|held|verified|good|one|borne)\w*",
+            tuple(map("mtc_headline.specs.{}".format, ("Headline", "AuditRuns", "Endings", "Joints", "OneText", "Borne"))))
 RUNS = ("The statement names", r"run|law_runs_(?:are|may_lose)_\w+", ("mtc_top.specs.Run", LAWS.format("Run")))
 EXECUTIONS = ("The laws of executions name",
               r"law_(?:executions|entries|journals|killed|no|recovered|released|runs_may_be|tiles)_\w+",
@@ -32,7 +34,7 @@ CERTIFICATES = ("The laws of certificates name", r"law_(?:certificate|certificat
                 tuple(map(LAWS.format, ("Cert", "Acceptance", "List", "Pem"))))
 MIRRORS = ("The laws of mirrors name", r"law_(?:cosigners|mirrors|misread_tiles|taken)_\w+",
            ("mtc_laws.specs.MirrorAgreement", *map(LAWS.format, ("Mirror", "Taken"))))
-STATEMENTS = (RUNS, EXECUTIONS, PRINTS, CERTIFICATES, MIRRORS)
+STATEMENTS = (HEADLINE, RUNS, EXECUTIONS, PRINTS, CERTIFICATES, MIRRORS)
 
 # The contracts are generic: what they say of a file system, a device, a stream and a hash function is what these traits ensure.
 TRAITS = ("mtc_room/src/room.rt", "disk_core/src/disk.rt", "mtc_io/src/source.rt", "mtc_io/src/sink.rt", "tree_core/src/hashing.rt")
@@ -276,6 +278,7 @@ def spoken(name):
 
 PARTS = (
     ("By crate", "All definitions that count for one of the statements below, each once.", crate_rows),
+    ("The headline", "What the headline and the laws that lead to it name themselves.", lambda: first_rows(HEADLINE)),
     ("The contract of run", "What the contract of `run` and the laws of each run name themselves.", lambda: first_rows(RUNS)),
     ("The promise as a whole", "The list of the promise, and where it ends.", promise_rows),
     ("The laws of executions", "What they name themselves.", lambda: first_rows(EXECUTIONS)),
@@ -341,8 +344,9 @@ def own_of(statement):
 def summary():
     """The first table of BELIEFS: how much each statement rests on."""
     rows = ["| Statement | Definitions that it names | Lines | With all below them | Lines |", "|---|---|---|---|---|"]
-    named = (("the contract of `run`, and the laws of each run", RUNS), ("the laws of executions", EXECUTIONS),
-             ("the laws of what is printed", PRINTS), ("the laws of certificates", CERTIFICATES), ("the laws of mirrors", MIRRORS))
+    named = (("the contract of `run`, and the laws of each run", RUNS), ("the headline, and the laws that lead to it", HEADLINE),
+             ("the laws of executions", EXECUTIONS), ("the laws of what is printed", PRINTS),
+             ("the laws of certificates", CERTIFICATES), ("the laws of mirrors", MIRRORS))
     rows += [summary_row(name, named_first(statement), own_of(statement)) for name, statement in named]
     rows.insert(3, summary_row("the promise as a whole", named_by(WHOLE), promise()[0]))
     all_own = reached(all_named())[0]

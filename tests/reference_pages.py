@@ -11,7 +11,7 @@ import sys
 import beliefs
 from checks import citations, comments, places
 from checks.citations import CRATES, below
-from checks.sources import ROOT
+from checks.sources import ROOT, THEOREMS
 
 sys.path.append(str(ROOT / "bench"))
 import figures
@@ -102,7 +102,7 @@ def doc_of(path, line):
 
 def said_of(crate, one):
     """What a call does, and all that a law says; of a call of a trait without a comment, that it is one."""
-    if one.name.startswith("law_"):
+    if one.name.startswith(THEOREMS):
         return comments.doc_of(one.path.read_text().split("\n"), one.line)
     of_trait = (f"As {code(key)}." for key in crate.calls if one.of_trait and key.endswith(f"::{one.name}"))
     return doc_of(one.path, one.line) or next(of_trait, "")
@@ -118,7 +118,7 @@ def in_order(calls):
 
 
 def is_law(call):
-    return call[0].split("::")[-1].startswith("law_")
+    return call[0].split("::")[-1].startswith(THEOREMS)
 
 
 def word_rows(crate):
@@ -148,7 +148,7 @@ def clauses_page():
         f"The {count} public calls, crate by crate: the labels of what each ensures, and the first sentence of its comment, of a law all of it. Each clause "
         "is proved for all inputs that meet the call's condition, and so is that the call is safe and returns. *It requires* marks "
         "a call with a condition. The clauses of a trait are owed by each type that implements it. "
-        "A call of a trait is listed once more where a type ensures more than the trait does. A law does nothing: its clause is a "
+        "A call of a trait is listed once more where a type ensures more than the trait does. A law does nothing, and so does a witness: its clause is a "
         "theorem. "
         "[PROMISES](../PROMISES.md) says what these come to, and what no clause says.", "",
         *contents(lambda crate: crate in with_some), "",

@@ -7,6 +7,8 @@ from pathlib import Path
 
 ROOT = Path(__file__).resolve().parents[2]
 NAME = r"[A-Za-z_][A-Za-z0-9_]*"
+# How the names of functions begin that do nothing, so that their clauses are theorems: laws, and witnesses of what laws suppose.
+THEOREMS = ("law_", "witness_")
 
 
 @dataclass(eq=False)

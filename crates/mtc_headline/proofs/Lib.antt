@@ -1,0 +1,7 @@
+mod Sent
+mod Recorded
+mod Judged
+mod Follows
+mod Given
+mod Borne
+mod OneText
