@@ -30,8 +30,10 @@ COSIGNER, COSIGNER_ID = "32473.2", bytes.fromhex("81fd5902")
 SIZE = 9
 SUBTREES = [(0, 9), (0, 8), (4, 8), (8, 9), (2, 4), (7, 8)]
 # The heights of a key's trees, its width, and how many signatures it makes.
-KEYS = [((5,), 1, 6), ((5,), 2, 6), ((5,), 4, 32), ((5,), 8, 6), ((10,), 1, 0), ((10,), 2, 0), ((10,), 4, 2), ((10,), 8, 0),
+KEYS = [((5,), 1, 6), ((5,), 2, 6), ((5,), 4, 32), ((5,), 8, 6), ((10,), 1, 0), ((10,), 2, 0), ((10,), 4, 2),
         ((5, 5), 1, 1), ((5, 5), 2, 1), ((5, 5), 4, 34), ((5, 5), 8, 2), ((10, 5), 4, 2), ((5, 10), 4, 2)]
+# The dearest key, which takes as long as all others: only with MTC_ALL=1.
+DEAREST, IS_WHOLE = ((10,), 8, 0), os.environ.get("MTC_ALL") == "1"
 # The typecodes of heights and widths (RFC 8554, sections 4.1 and 5.1).
 HEIGHTS = {height: code for code, height in hss.LMS.items()}
 WIDTHS = {width: code for code, (width, _, _) in hss.LMOTS.items()}
@@ -105,7 +107,7 @@ def signatures():
     """The cases of all keys, and the folder with their cosigners."""
     folder = Folder(PROGRAM)
     leaves = new_log(folder)
-    return folder, [case for heights, width, count in KEYS for case in cosigned(folder, leaves, heights, width, count)]
+    return folder, [case for heights, width, count in [*KEYS, *[DEAREST] * IS_WHOLE] for case in cosigned(folder, leaves, heights, width, count)]
 
 
 def verified(folder, cases):
@@ -138,5 +140,7 @@ class Cosignatures(Check):
 if __name__ == "__main__":
     PROGRAM = program_of(sys.argv[1:])
     status = run(checks_of(Cosignatures))
+    if not IS_WHOLE:
+        print("left out: cosignatures: the key of height 10 and width 8")
     signatures()[0].close()
     sys.exit(status)
