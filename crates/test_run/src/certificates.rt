@@ -1,7 +1,7 @@
 //! What `cert` writes, what `show` prints of a certificate, and what `verify` answers to one, a
 //! store and a time.
 
-use crate::scripts::{Outcome, outcome_after, outcome_of};
+use crate::scripts::{Outcome, outcome_of};
 
 const SHOWN: &str = r#"
 # A certificate of log 32473.1 for a.example, 231 bytes: the entry 1, in the interval 0 to 2.
@@ -167,8 +167,7 @@ fn shows_and_writes_certificates(rt: HostRuntime) {
     assert!(rt; outcome == Ok(Outcome::Passed(19)), "{outcome:?}");
 }
 
-/// Names of bytes for the scripts that judge a certificate.
-pub(crate) const NAMES: &str = r#"
+const JUDGED: &str = r#"
 # The same certificate.
 name CERT
   3081e430819ca003020102020101300c060a2b0601040182da4b2f00301931173015060a2b0601040182da4b2f
@@ -192,9 +191,7 @@ name DIFFERENT
 | start = 0
 | end = 2
 | hash = "77566825cd25f263271e3fa5341db28ed2c87945ee98f731b2aa96b9e6b11cf7"
-"#;
 
-const JUDGED: &str = r#"
 case a second before the first
 file c CERT
 file store LOG SUBTREE
@@ -460,6 +457,6 @@ status 1
 
 #[test]
 fn judges_certificates(rt: HostRuntime) {
-    let outcome = outcome_after(rt.alloc(), NAMES, JUDGED);
+    let outcome = outcome_of(rt.alloc(), JUDGED);
     assert!(rt; outcome == Ok(Outcome::Passed(33)), "{outcome:?}");
 }

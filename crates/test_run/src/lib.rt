@@ -14,8 +14,6 @@ mod blocks;
 #[cfg(test)]
 mod certificates;
 #[cfg(test)]
-mod changed_files;
-#[cfg(test)]
 mod cosigners;
 #[cfg(test)]
 mod desk;
@@ -51,8 +49,6 @@ mod executions;
 mod exports;
 #[cfg(test)]
 mod hashes;
-#[cfg(test)]
-mod large_log;
 #[cfg(test)]
 mod logs;
 #[cfg(test)]

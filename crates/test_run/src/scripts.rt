@@ -11,7 +11,6 @@
 //! again F         a file that is there, as it then is
 //! times N BYTES   so many times these bytes
 //! cut N           of its bytes the first N alone
-//! from F N M      the bytes of a file from its offset N up to M
 //! byte N HEX      another byte at its offset N
 //! fails N ..      the calls on it that fail
 //! fresh N ..      the calls that fail on each file that is made
@@ -170,17 +169,6 @@ impl Script {
         Some(true)
     }
 
-    // The bytes of a file from an offset up to another one: `F N M`.
-    fn append_part(&mut self, words: &str) -> Option<bool> {
-        let (name, rest) = parted(words);
-        let (start, end) = parted(rest);
-        let (start, end) = (start.parse::<usize>().ok()?, end.parse::<usize>().ok()?);
-        match self.desk.bytes(name)?.get(start..end) {
-            Some(piece) => self.block.append(piece),
-            None => Some(false),
-        }
-    }
-
     fn end_name(&mut self) -> Option<bool> {
         let name = self.block.take_name();
         let bytes = self.block.take();
@@ -335,7 +323,6 @@ impl Script {
             "#" => Some(true),
             "" => self.append(words),
             "times" => self.append_times(words),
-            "from" => self.append_part(words),
             "|" => self.block.append_text(words, "\n"),
             "|=" => self.block.append_text(words, ""),
             "byte" => self.block.change(words),
@@ -379,38 +366,29 @@ pub fn outcome_of(alloc: Global, text: &str) -> Result<Outcome, Unread> {
     script.play(text).ok_or(Unread)
 }
 
-/// How a script ends that continues after the names and files of another one, and the file system
-/// that it leaves.
-pub fn ended_after(alloc: Global, names: &str, text: &str) -> Result<(Outcome, Desk), Unread> {
-    let mut script = new_script(alloc);
-    let Some(Outcome::Passed(_)) = script.play(names) else {
-        return Err(Unread);
-    };
-    match script.play(text) {
-        Some(outcome) => Ok((outcome, script.desk)),
-        None => Err(Unread),
-    }
-}
-
 /// How a script ends that continues after the names of another one.
 pub fn outcome_after(alloc: Global, names: &str, text: &str) -> Result<Outcome, Unread> {
-    let (outcome, _desk) = ended_after(alloc, names, text)?;
-    Ok(outcome)
+    let mut script = new_script(alloc);
+    match script.play(names) {
+        Some(Outcome::Passed(_)) => script.play(text).ok_or(Unread),
+        _ => Err(Unread),
+    }
 }
 
 /// The file system that a script leaves after the names of another one, if both pass.
 pub fn desk_after(alloc: Global, names: &str, text: &str) -> Option<Desk> {
-    match ended_after(alloc, names, text) {
-        Ok((Outcome::Passed(_), desk)) => Some(desk),
+    let mut script = new_script(alloc);
+    match (script.play(names), script.play(text)) {
+        (Some(Outcome::Passed(_)), Some(Outcome::Passed(_))) => Some(script.desk),
         _ => None,
     }
 }
 
 // Scripts that fail in their last line: another status, no line of an error, an output that isn't
 // written, bytes that a file doesn't have, a file that is there, a cut after the end, no such line,
-// a status of no run, an output of a refusal, a file that isn't there, files that differ, another
-// length, and a part after the end.
-const WRONG: [&str; 13] = [
+// a status of no run, an output of a refusal, a file that isn't there, files that differ, and
+// another length.
+const WRONG: [&str; 12] = [
     "$ frob\n! mtc: UnknownCommand",
     "$ frob\nstatus 1",
     "$ frob\nstatus 1\n! mtc: UnknownCommand\n| frob",
@@ -423,7 +401,6 @@ const WRONG: [&str; 13] = [
     "again f",
     "file f 00\nfile g 01\nsame f g",
     "file f 00\nlength f 2",
-    "file f 00\nfile g\nfrom f 0 2",
 ];
 
 #[test]
